@@ -1,0 +1,12 @@
+pub mod Basics
+pub mod Types
+pub mod Step
+pub mod Policy
+pub mod Typing
+pub mod Value
+pub mod Token
+pub mod Session
+pub mod Text
+pub mod Frame
+pub mod File
+pub mod Report
