@@ -1,1 +1,4 @@
+pub mod Tests
+pub mod TypeOrder
 pub mod Marked
+pub mod Cases

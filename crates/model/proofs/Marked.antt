@@ -1,5 +1,4 @@
--- The marked cases of the scope as one list with a single statement; the program's answer to the worked listing, whole;
--- and further cases, at least one for each number that the marked ones leave open. All are computed.
+-- The marked cases of the scope as one list with a single statement, and the program's answer to the worked listing, from its bytes to its bytes.
 -- Assumes nothing.
 use Prim.Native.Nat.{ℕ}
 use Prim.Native.Char.{code}
@@ -21,6 +20,11 @@ use Rattle.model.specs.Frame.{stepsOf, returnsLast, namesMade, argsOf}
 use Rattle.model.specs.File.{Parsed, refused, file, parseFrom, parse, verdictOf}
 use Rattle.model.specs.Report.{answer, answerTo, lineFrames}
 use Rattle.model.specs.declared.Verdict.{Verdict}
+
+-- on an `unfolding` line this opens every definition that a case computes through
+unfoldable pub opened : Unit {0}
+unfolding indexBy those upFrom joinOf findings stepFindings firstRefusal same linesOf digitValue inPairs wellWritten bytesOf numberFrom stepsOf returnsLast namesMade argsOf parseFrom parse appear generate store get runSteps withArguments runFrom written answerTo lineFrames
+opened = tt
 
 -- the bytes of a text, and of lines of text
 abbrev pub bytes : String → List ℕ
@@ -44,7 +48,7 @@ pub data Case : Type 0 where
   joined : Ty → Ty → Ty → Case
   decrypted : Value → Value → Value → Case
   judged : List String → Verdict → Case
-  answered : List String → List String → Case
+  answered : List ℕ → List String → Case
   ended : Room → List String → ℕ → ℕ → Case
 
 abbrev pub Holds : Case → Type 0
@@ -52,7 +56,7 @@ Holds (template t τ) = typeOf t ≡ τ
 Holds (joined a b c) = join a b ≡ c
 Holds (decrypted v k w) = decrypt v k ≡ w
 Holds (judged ls v) = verdictOf (parse (text ls)) ≡ v
-Holds (answered ls out) = answer (text ls) ≡ text out
+Holds (answered input out) = answer input ≡ text out
 Holds (ended ρ ls n i) = (runIn ρ (parse (text ls)) .ending ≡ n) × (runIn ρ (parse (text ls)) .place ≡ i)
 
 abbrev pub AllHold : List Case → Type 0
@@ -96,17 +100,19 @@ marked =
     ∷ []
 
 pub marked-hold : AllHold marked
-unfolding indexBy those upFrom joinOf findings stepFindings firstRefusal same linesOf digitValue inPairs wellWritten bytesOf numberFrom stepsOf returnsLast namesMade argsOf parseFrom parse
+unfolding opened
 marked-hold = (refl, (refl, (refl, (refl, (refl, (refl, (refl, (refl, (refl, (refl, (refl, (refl, (refl, (refl, tt))))))))))))))
 
-pub listing-answer : answer (text listing)
-    ≡ text
-    ("8112000302"
+abbrev pub listingOutput : List String
+listingOutput =
+    "8112000302"
     ∷ "820000000000000100"
     ∷ "820001000002000200"
     ∷ "820002000004000200"
     ∷ "820003000001000201"
     ∷ "83000003"
-    ∷ [])
-unfolding indexBy those upFrom joinOf findings stepFindings firstRefusal same linesOf digitValue inPairs wellWritten bytesOf numberFrom stepsOf returnsLast namesMade argsOf parseFrom parse appear generate store get runSteps withArguments runFrom written answerTo lineFrames
+    ∷ []
+
+pub listing-answer : answer (text listing) ≡ text listingOutput
+unfolding opened
 listing-answer = refl

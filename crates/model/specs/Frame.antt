@@ -89,11 +89,14 @@ argsOf [] = []
 argsOf (x ∷ []) = []
 argsOf (x ∷ y ∷ rest) = argOf (numberFrom 0 (x ∷ y ∷ [])) ∷ argsOf rest
 
--- kind 0 calls a command, 1 encrypts, 2 decrypts
+-- kind 0 calls a command, 1 encrypts, 2 decrypts; there is no kind above
+abbrev pub lineBy : ℕ → ℕ → List Arg → Line
+lineBy zero c args = calls c args
+lineBy (suc zero) c args = computes Encrypt args
+lineBy (suc (suc k)) c args = computes Decrypt args
+
 abbrev pub lineOf : List ℕ → Line
-lineOf f =
-    getD (calls (byteAt f 2) (argsOf (drop 4 f)) ∷ computes Encrypt (argsOf (drop 4 f)) ∷ []) (byteAt f 1)
-    (computes Decrypt (argsOf (drop 4 f)))
+lineOf f = lineBy (byteAt f 1) (byteAt f 2) (argsOf (drop 4 f))
 
 abbrev pub computeFormed : List ℕ → Bool
 computeFormed f = eqb (byteAt f 2) 0 && eqb (byteAt f 3) 2

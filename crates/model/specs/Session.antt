@@ -60,7 +60,7 @@ argument fs (ofLine i) = outcomeAt fs i
 
 abbrev pub appearing : Room → Outcome → State → Out
 appearing ρ (value v) σ = appear ρ v σ
-appearing ρ none σ = stopped
+appearing ρ none σ = stopped σ
 
 unfoldable pub withArguments : Room → List Finished → List Arg → List Value → State → (List Value → State → Out) → Out
 withArguments ρ fs [] vs σ next = next vs σ
@@ -101,7 +101,7 @@ pub record Run : Type 0 where
 abbrev pub afterLine : Out → ℕ → Session → (Session → Run) → Run
 afterLine (ended v σ) i s next = next (finish (value v) σ s)
 afterLine (gave v σ) i s next = next (finish none (s .state) s)
-afterLine stopped i s next = next (finish none (s .state) s)
+afterLine (stopped σ) i s next = next (finish none (s .state) s)
 afterLine (full n) i s next = record { session = s; ending = n; place = i }
 
 -- the lines from line i on

@@ -49,16 +49,16 @@ pub record Room : Type 0 where
   pub rows : Limit
   pub keys : Limit
 
--- what a step or a call comes to: a value, with which the call goes on or ends, and the state then; a stop; a run ending
+-- what a step or a call comes to: a value, with which the call goes on or ends; a stop; and the state then; or a run ending
 pub data Out : Type 0 where
   gave ended : Value → State → Out
-  stopped : Out
+  stopped : State → Out
   full : ℕ → Out
 
 abbrev pub andThen : Out → (Value → State → Out) → Out
 andThen (gave v σ) next = next v σ
 andThen (ended v σ) next = ended v σ
-andThen stopped next = stopped
+andThen (stopped σ) next = stopped σ
 andThen (full n) next = full n
 
 -- Appearing: a value that has no row gets the next one, or there is no room for it.
@@ -123,7 +123,7 @@ unfoldable pub get : Room → Step → Value → State → Out
 get ρ s h σ =
     let ks = σ .token .stored in
     let k = keyAt ks (placeOf h ks) in
-    cond (ltb (placeOf h ks) (length ks) && meets s (k .template)) (appear ρ (k .key) σ) stopped
+    cond (ltb (placeOf h ks) (length ks) && meets s (k .template)) (appear ρ (k .key) σ) (stopped σ)
 
 -- what a step does with the values v and w that its fields a and b name
 abbrev pub perform : Room → Op → Step → Value → Value → State → Out
@@ -132,11 +132,11 @@ perform ρ Get s v w σ = get ρ s v σ
 perform ρ Generate s v w σ = generate ρ (s .t) σ
 perform ρ Store s v w σ = store ρ v (s .t) σ
 perform ρ (Compute o) s v w σ = appear ρ (compute o (operands o v w)) σ
-perform ρ Unknown s v w σ = stopped
+perform ρ Unknown s v w σ = stopped σ
 
 -- the steps one after the other, on the values so far
 unfoldable pub runSteps : Room → List Step → List Value → State → Out
-runSteps ρ [] vs σ = stopped
+runSteps ρ [] vs σ = stopped σ
 runSteps ρ (s ∷ ss) vs σ =
     andThen (perform ρ (opOf s) s (valueAt vs (s .a)) (valueAt vs (s .b)) σ) (λ v σ′. runSteps ρ ss (vs ++ v ∷ []) σ′)
 
@@ -145,4 +145,4 @@ abbrev pub commandAt : List Command → ℕ → Command
 commandAt cs c = getD cs c (record { params = 0; steps = [] })
 
 abbrev pub call : Room → List Command → ℕ → List Value → State → Out
-call ρ cs c vs σ = cond (eqb (length vs) (commandAt cs c .params)) (runSteps ρ (commandAt cs c .steps) vs σ) stopped
+call ρ cs c vs σ = cond (eqb (length vs) (commandAt cs c .params)) (runSteps ρ (commandAt cs c .steps) vs σ) (stopped σ)

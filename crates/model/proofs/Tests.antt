@@ -1,0 +1,55 @@
+-- Laws on tests that compute to true or false, and how a test over all types, or over all Bools, is used at one of them.
+-- Assumes nothing.
+use Prim.Native.Nat.{ℕ, suc}
+use mathlib.Core.Path.{_≡_, refl}
+use mathlib.Core.Bool.{Bool, true, false, not, _&&_, _||_}
+use mathlib.Core.List.{List, [], _∷_}
+use native.Mathlib.Omega.{arith}
+use lib.Dec.{T}
+use Rattle.model.specs.Basics.{_else_then_, implies, every}
+use Rattle.model.specs.Types.{Ty, Un, TData, Data, Wrap, Seed, Any, None, types}
+
+pub and-left : (a b : Bool) → T (a && b) → T a
+and-left true b t = tt
+and-left false b t = t
+
+pub and-right : (a b : Bool) → T (a && b) → T b
+and-right true b t = t
+and-right false b t = absurd t
+
+pub and-both : (a b : Bool) → T a → T b → T (a && b)
+and-both true b t u = u
+and-both false b t u = t
+
+pub apply : (a b : Bool) → T (implies a b) → T a → T b
+apply true b t u = t
+apply false b t u = absurd u
+
+pub apply₂ : (a b c : Bool) → T (implies a (implies b c)) → T a → T b → T c
+apply₂ true b c t u = apply b c t
+apply₂ false b c t u = absurd u
+
+-- a rule that is refused by number n + 1 and is not refused is met, and so are the rest
+pub met : (b : Bool) (n rest : ℕ) → (b else suc n then rest) ≡ 0 → T b × (rest ≡ 0)
+met true n rest e = (tt, e)
+met false n rest e = absurd (omega arith)
+
+-- ---- a test at each type, no type among them
+
+abbrev pub atAll : (Ty → Bool) → Bool
+atAll f = every f (None ∷ types)
+
+pub each : (f : Ty → Bool) → T (atAll f) → (a : Ty) → T (f a)
+each f h Un = search (and-left, and-right) depth 9
+each f h TData = search (and-left, and-right) depth 9
+each f h Data = search (and-left, and-right) depth 9
+each f h Wrap = search (and-left, and-right) depth 9
+each f h Seed = search (and-left, and-right) depth 9
+each f h Any = search (and-left, and-right) depth 9
+each f h None = search and-left
+
+pub each₂ : (f : Ty → Ty → Bool) → T (atAll (λ a. atAll (f a))) → (a b : Ty) → T (f a b)
+each₂ f h a b = each (f a) (each (λ x. atAll (f x)) h a) b
+
+pub each₃ : (f : Ty → Ty → Ty → Bool) → T (atAll (λ a. atAll (λ b. atAll (f a b)))) → (a b c : Ty) → T (f a b c)
+each₃ f h a b c = each (f a b) (each₂ (λ x y. atAll (f x y)) h a b) c
