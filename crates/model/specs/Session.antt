@@ -29,6 +29,9 @@ pub record Finished : Type 0 where
   pub keys : ℕ
   pub breach : Bool
 
+abbrev pub outcomesOf : List Finished → List Outcome
+outcomesOf fs = map (λ f. f .outcome) fs
+
 -- the state after the lines finished so far
 pub record Session : Type 0 where
   pub state : State
@@ -51,12 +54,9 @@ breached guarded os = some (inHand os) guarded
 
 -- The arguments of a line, left to right: each appears, and a stopped line's name stops the line.
 
-abbrev pub outcomeAt : List Finished → ℕ → Outcome
-outcomeAt fs i = getD (map (λ f. f .outcome) fs) i none
-
 abbrev pub argument : List Finished → Arg → Outcome
 argument fs (constant n) = value (const n)
-argument fs (ofLine i) = outcomeAt fs i
+argument fs (ofLine i) = getD (outcomesOf fs) i none
 
 abbrev pub appearing : Room → Outcome → State → Out
 appearing ρ (value v) σ = appear ρ v σ
@@ -78,18 +78,16 @@ abbrev pub rowAfter : Outcome → State → ℕ
 rowAfter (value v) σ = rowOf v (σ .world .rows)
 rowAfter none σ = 0xffff
 
-abbrev pub finish : Outcome → State → Session → Session
-finish o σ s = record {
-  state = σ;
-  finished = s .finished
-      ++ record {
-        outcome = o;
-        row = rowAfter o σ;
-        keys = length (σ .token .stored);
-        breach = breached (σ .world .guarded) (map (λ f. f .outcome) (s .finished) ++ o ∷ []);
-      }
-      ∷ [];
+abbrev pub finishedAs : Outcome → State → List Finished → Finished
+finishedAs o σ before = record {
+  outcome = o;
+  row = rowAfter o σ;
+  keys = length (σ .token .stored);
+  breach = breached (σ .world .guarded) (outcomesOf before ++ o ∷ []);
 }
+
+abbrev pub finish : Outcome → State → Session → Session
+finish o σ s = record { state = σ; finished = s .finished ++ finishedAs o σ (s .finished) ∷ [] }
 
 -- how a run ends: the session after the last finished line; 0 and 0, or the ending and the line that it kept from finishing
 pub record Run : Type 0 where
