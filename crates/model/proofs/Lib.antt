@@ -4,5 +4,7 @@ pub mod TypeRules
 pub mod TypedValues
 pub mod Acceptance
 pub mod Secure
+pub mod Printed
 pub mod Marked
 pub mod Cases
+pub mod Witnesses
