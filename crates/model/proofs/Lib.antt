@@ -5,6 +5,7 @@ pub mod TypedValues
 pub mod Acceptance
 pub mod Secure
 pub mod Printed
+pub mod Unlimited
 pub mod Marked
 pub mod Cases
 pub mod Witnesses
