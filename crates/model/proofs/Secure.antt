@@ -113,7 +113,7 @@ module _ (p : Policy) (lw : Lawful p) where
   Good Θ P (gave v σ) = (Θ′ : Births) × Later Θ Θ′ × Invariant Θ′ σ × P Θ′ v
   Good Θ P (ended v σ) = (Θ′ : Births) × Later Θ Θ′ × Invariant Θ′ σ × Has Θ′ (p .transported) v Un
   Good Θ P (stopped σ) = Unit {0}
-  Good Θ P (full n) = Unit {0}
+  Good Θ P (full n σ) = Unit {0}
 
   good-if : (Θ : Births) (P : About) (b : Bool) (o q : Out) → (T b → Good Θ P o) → (T (not b) → Good Θ P q) → Good Θ P (cond b o q)
   good-if Θ P true o q f g = f tt
@@ -123,7 +123,7 @@ module _ (p : Policy) (lw : Lawful p) where
   good-later Θ Θ′ P (gave v σ) e h = (h .0, later-trans Θ Θ′ (h .0) e (h .1), h .2, h .3)
   good-later Θ Θ′ P (ended v σ) e h = (h .0, later-trans Θ Θ′ (h .0) e (h .1), h .2, h .3)
   good-later Θ Θ′ P (stopped σ) e h = tt
-  good-later Θ Θ′ P (full n) e h = tt
+  good-later Θ Θ′ P (full n σ) e h = tt
 
   good-then : (Θ : Births) (P Q : About) (o : Out) (next : Value → State → Out) → Good Θ P o
       → ((Θ′ : Births) (v : Value) (σ : State) → Later Θ Θ′ → Invariant Θ′ σ → P Θ′ v → Good Θ′ Q (next v σ))
@@ -131,7 +131,7 @@ module _ (p : Policy) (lw : Lawful p) where
   good-then Θ P Q (gave v σ) next h f = good-later Θ (h .0) Q (next v σ) (h .1) (f (h .0) v σ (h .1) (h .2) (h .3))
   good-then Θ P Q (ended v σ) next h f = h
   good-then Θ P Q (stopped σ) next h f = tt
-  good-then Θ P Q (full n) next h f = tt
+  good-then Θ P Q (full n σ) next h f = tt
 
   -- ---- what a step does
 
@@ -142,9 +142,9 @@ module _ (p : Policy) (lw : Lawful p) where
       let fresh-row : Good Θ P (gave v grown) =
       (Θ, later-refl Θ, record { unmade = i .unmade; keys = i .keys; guards = i .guards }, h) in
       good-if Θ P (present v (σ .world .rows)) (gave v σ)
-      (cond (fits (ρ .rows) (length (σ .world .rows))) (gave v grown) (full 32))
+      (cond (fits (ρ .rows) (length (σ .world .rows))) (gave v grown) (full 32 σ))
       (λ t. (Θ, later-refl Θ, i, h))
-      (λ t. good-if Θ P (fits (ρ .rows) (length (σ .world .rows))) (gave v grown) (full 32) (λ u. fresh-row) (λ u. tt))
+      (λ t. good-if Θ P (fits (ρ .rows) (length (σ .world .rows))) (gave v grown) (full 32 σ) (λ u. fresh-row) (λ u. tt))
 
   -- a new atom of a type
   new-atom-good : (Θ : Births) (τ : Ty) (ρ : Room) (σ : State) → Invariant Θ σ
@@ -164,7 +164,7 @@ module _ (p : Policy) (lw : Lawful p) where
 
   guard-if : (Θ : Births) (b : Bool) (v : Value) (w : World) → (T b → GuardOk Θ v) → All (GuardOk Θ) (w .guarded)
       → All (GuardOk Θ) (guardIf b v w .guarded)
-  guard-if Θ true v w f h = (f tt, h)
+  guard-if Θ true v w f h = all-snoc (GuardOk Θ) (w .guarded) v h (f tt)
   guard-if Θ false v w f h = h
 
   guard-if-atoms : (b : Bool) (v : Value) (w : World) → guardIf b v w .atoms ≡ w .atoms
@@ -189,7 +189,7 @@ module _ (p : Policy) (lw : Lawful p) where
   exactly-below Θ v τ e h = subst (λ (x : Ty). T (below x τ)) (sym e) (below-refl τ h)
 
   place-good : (Θ : Births) (P : About) (ρ : Room) (σ : State) (o : Out) → Good Θ P o → Good Θ P (withPlace ρ σ o)
-  place-good Θ P ρ σ o h = good-if Θ P (fits (ρ .keys) (length (σ .token .stored))) o (full 33) (λ room. h) (λ none-left. tt)
+  place-good Θ P ρ σ o h = good-if Θ P (fits (ρ .keys) (length (σ .token .stored))) o (full 33 σ) (λ room. h) (λ none-left. tt)
 
   -- the value has just this type
   abbrev Exactly : Ty → About
@@ -418,7 +418,7 @@ module _ (p : Policy) (lw : Lawful p) where
       (finish-right (good .0) (value v) σ s (good .2)
       (hand-kept (right .births) (good .0) (good .1) (outcomesOf (s .finished)) (right .hand-open)) (good .3) (right .marks-flat))
   after-line-right ρ (stopped σ) n s next right good f = f (finish none (s .state) s) (stays-right s right)
-  after-line-right ρ (full m) n s next right good f = right
+  after-line-right ρ (full m σ) n s next right good f = right
 
   run-right : (ρ : Room) (cs : List Command) (ls : List Line) (n : ℕ) (s : Session) → All (SoundCommand p) cs → Right s
       → Right (runFrom ρ cs ls n s .session)

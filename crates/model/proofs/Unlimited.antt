@@ -22,7 +22,7 @@ abbrev Goes : Out → Type 0
 Goes (gave v σ) = Unit {0}
 Goes (ended v σ) = Unit {0}
 Goes (stopped σ) = Unit {0}
-Goes (full n) = ⊥
+Goes (full n σ) = ⊥
 
 goes-if : (b : Bool) (o q : Out) → Goes o → Goes q → Goes (cond b o q)
 goes-if true o q h k = h
@@ -32,7 +32,7 @@ goes-then : (o : Out) (next : Value → State → Out) → Goes o → ((v : Valu
 goes-then (gave v σ) next h f = f v σ
 goes-then (ended v σ) next h f = tt
 goes-then (stopped σ) next h f = tt
-goes-then (full n) next h f = h
+goes-then (full n σ) next h f = h
 
 appear-goes : (v : Value) (σ : State) → Goes (appear boundless v σ)
 unfolding appear
@@ -118,7 +118,7 @@ after-line-through o i m s next g f = go o g
     go (gave v σ) g = counted (finish none (s .state) s) (one-more none (s .state) s)
     go (ended v σ) g = counted (finish (value v) σ s) (one-more (value v) σ s)
     go (stopped σ) g = counted (finish none (s .state) s) (one-more none (s .state) s)
-    go (full n) g = absurd g
+    go (full n σ) g = absurd g
 
 run-through : (cs : List Command) (ls : List Line) (i : ℕ) (s : Session)
     → Through (runFrom boundless cs ls i s) (length (s .finished)) (length ls)

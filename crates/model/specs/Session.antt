@@ -100,7 +100,7 @@ abbrev pub afterLine : Out → ℕ → Session → (Session → Run) → Run
 afterLine (ended v σ) i s next = next (finish (value v) σ s)
 afterLine (gave v σ) i s next = next (finish none (s .state) s)
 afterLine (stopped σ) i s next = next (finish none (s .state) s)
-afterLine (full n) i s next = record { session = s; ending = n; place = i }
+afterLine (full n σ) i s next = record { session = s; ending = n; place = i }
 
 -- the lines from line i on
 unfoldable pub runFrom : Room → List Command → List Line → ℕ → Session → Run

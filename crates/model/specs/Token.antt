@@ -49,17 +49,17 @@ pub record Room : Type 0 where
   pub rows : Limit
   pub keys : Limit
 
--- what a step or a call comes to: a value, with which the call goes on or ends; a stop; and the state then; or a run ending
+-- what a step or a call comes to: a value, with which the call goes on or ends; a stop; a run ending; and the state then
 pub data Out : Type 0 where
   gave ended : Value → State → Out
   stopped : State → Out
-  full : ℕ → Out
+  full : ℕ → State → Out
 
 abbrev pub andThen : Out → (Value → State → Out) → Out
 andThen (gave v σ) next = next v σ
 andThen (ended v σ) next = ended v σ
 andThen (stopped σ) next = stopped σ
-andThen (full n) next = full n
+andThen (full n σ) next = full n σ
 
 -- Appearing: a value that has no row gets the next one, or there is no room for it.
 
@@ -71,7 +71,7 @@ appear ρ v σ =
     cond (present v (σ .world .rows)) (gave v σ)
     (cond (fits (ρ .rows) (length (σ .world .rows)))
     (gave v (record { world = withRow v (σ .world); token = σ .token }))
-    (full 32))
+    (full 32 σ))
 
 -- one atom more
 abbrev pub withAtom : World → World
@@ -83,7 +83,7 @@ newAtom ρ σ = appear ρ (fresh (σ .world .atoms)) (record { world = withAtom 
 -- Keeping a value under a template: first there must be a place for it.
 
 abbrev pub guardIf : Bool → Value → World → World
-guardIf true v w = record { atoms = w .atoms; rows = w .rows; guarded = v ∷ w .guarded }
+guardIf true v w = record { atoms = w .atoms; rows = w .rows; guarded = w .guarded ++ v ∷ [] }
 guardIf false v w = w
 
 abbrev pub withKey : Value → Value → ℕ → Token → Token
@@ -93,7 +93,7 @@ abbrev pub keep : Bool → Value → Value → ℕ → State → Out
 keep guards h v t σ = gave h (record { world = guardIf guards v (σ .world); token = withKey h v t (σ .token) })
 
 abbrev pub withPlace : Room → State → Out → Out
-withPlace ρ σ stores = cond (fits (ρ .keys) (length (σ .token .stored))) stores (full 33)
+withPlace ρ σ stores = cond (fits (ρ .keys) (length (σ .token .stored))) stores (full 33 σ)
 
 -- a key is guarded when it is generated under S, and any value when it is kept under A
 abbrev pub guardsGenerated : ℕ → Bool
