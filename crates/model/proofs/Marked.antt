@@ -5,15 +5,13 @@ use Prim.Native.Char.{code}
 use Prim.Native.String.{String}
 use Prim.Native.String
 use mathlib.Core.Path.{_≡_, refl}
-use mathlib.Core.Bool.{decide}
 use mathlib.Core.List.{List, [], _∷_, _++_}
-use native.Mathlib.Decide.{ℕ-discrete}
 use Rattle.model.specs.Basics.{indexBy, those, upFrom}
 use Rattle.model.specs.Types.{Ty, Un, TData, Data, Wrap, Seed, Any, None, typeOf, join}
 use Rattle.model.specs.Policy.{joinOf}
 use Rattle.model.specs.Typing.{findings, stepFindings, firstRefusal}
 use Rattle.model.specs.Value.{Value, const, enc, dec, decrypt, same}
-use Rattle.model.specs.Token.{Room, atMost, unlimited, appear, generate, store, get, runSteps}
+use Rattle.model.specs.Token.{Room, appear, generate, store, get, runSteps}
 use Rattle.model.specs.Session.{Run, run, withArguments, runFrom, start}
 use Rattle.model.specs.Text.{linesOf, digitValue, inPairs, wellWritten, bytesOf, numberFrom, written}
 use Rattle.model.specs.Frame.{stepsOf, returnsLast, namesMade, argsOf}

@@ -1,21 +1,21 @@
 -- Demand 3 carried to the program's output: what it prints for an accepted input has no breach mark. And reading lets only lawful policies through.
 -- Assumes nothing.
-use Prim.Native.Nat.{ℕ, zero, suc, _≤_, _<_}
-use mathlib.Core.Path.{_≡_, refl, sym, subst, ap}
-use mathlib.Core.Bool.{Bool, true, false, not, cond, _&&_}
+use Prim.Native.Nat.{ℕ, zero, suc, _≤_}
+use mathlib.Core.Path.{_≡_, refl, subst}
+use mathlib.Core.Bool.{Bool, true, false, not, cond}
 use mathlib.Core.List.{List, [], _∷_, _++_}
 use native.Mathlib.Omega.{arith}
-use lib.Dec.{T, eqb, ltb, leb, eqb→eq, leb→le, T-not, not-T}
+use lib.Dec.{T, eqb, leb, eqb→eq, leb→le, T-not, not-T}
 use lib.ListN.{length}
-use Rattle.model.specs.Basics.{_else_then_, indexBy, some, every, upFrom}
-use Rattle.model.specs.Types.{Ty, typed, typeOfCode}
-use Rattle.model.specs.Policy.{Policy, lawful}
+use Rattle.model.specs.Basics.{_else_then_, indexBy, some, upFrom}
+use Rattle.model.specs.Types.{typed, typeOfCode}
+use Rattle.model.specs.Policy.{lawful}
 use Rattle.model.specs.Typing.{verdict, accepted, findings}
 use Rattle.model.specs.Session.{Finished}
 use Rattle.model.specs.Text.{TextLine, linesOf, wellWritten, bytesOf, written}
-use Rattle.model.specs.Frame.{File, Reading, nothingRead, Kind, policyKind, commandKind, lineKind, otherKind, kindOf, byteAt, policyOf, policyFormed, commandFormed, lineFormed, inPlace, bodyRefusal, frameRefusal, withFrame}
+use Rattle.model.specs.Frame.{File, Reading, nothingRead, Kind, policyKind, commandKind, lineKind, otherKind, kindOf, byteAt, policyOf, policyFormed, inPlace, bodyRefusal, frameRefusal, withFrame}
 use Rattle.model.specs.File.{Parsed, refused, file, lineRefusal, afterFrame, unlessRefused, parseFrom, parse}
-use Rattle.model.specs.Report.{runOf, verdictFrame, lineFrames, firstBreach, endFrame, answerTo, answer, programRoom}
+use Rattle.model.specs.Report.{runOf, verdictFrame, lineFrames, firstBreach, answerTo, answer, programRoom}
 use Rattle.model.proofs.Tests.{and-right, met, every-in-range}
 use Rattle.model.proofs.TypedValues.{All, none-passes}
 use Rattle.model.proofs.Acceptance.{no-refusal, all-met}

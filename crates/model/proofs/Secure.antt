@@ -4,18 +4,18 @@
 -- Assumes nothing.
 use Prim.Native.Nat.{ℕ, zero, suc, _+_, _≤_, _<_}
 use mathlib.Core.Path.{_≡_, refl, sym, subst, _∙_}
-use mathlib.Core.Bool.{Bool, true, false, not, cond, _&&_, _||_}
-use mathlib.Core.List.{List, [], _∷_, _++_, map}
+use mathlib.Core.Bool.{Bool, true, false, not, cond, _&&_}
+use mathlib.Core.List.{List, [], _∷_, _++_}
 use native.Mathlib.Omega.{arith}
 use lib.Dec.{T, eqb, ltb, eqb→eq, ltb→lt, T-not, not-T}
-use lib.ListN.{getD, length, replicate}
-use Rattle.model.specs.Basics.{_else_then_, indexBy, some, every, those, upFrom, implies}
-use Rattle.model.specs.Types.{Ty, Un, None, is, typed, below, join, typeOf}
+use lib.ListN.{length, replicate}
+use Rattle.model.specs.Basics.{_else_then_, some, those, upFrom, implies}
+use Rattle.model.specs.Types.{Ty, Un, None, is, typed, below, typeOf}
 use Rattle.model.specs.Step.{Op, Return, Get, Generate, Store, Compute, Unknown, Operation, Encrypt, Decrypt, opOf, Command}
-use Rattle.model.specs.Policy.{Policy, allows, meets, offered, joinOf, getType, lawful}
+use Rattle.model.specs.Policy.{Policy, allows, meets, joinOf, getType, lawful}
 use Rattle.model.specs.Typing.{returnOk, storeOk, encryptOk, decryptOk, refusal, gives, typeAt, stepGives, stepFindings, findings, verdict}
-use Rattle.model.specs.Value.{Value, const, fresh, enc, dec, same, isConst, decrypt, valueAt, compute, operands, present}
-use Rattle.model.specs.Token.{Key, Token, World, State, Room, Out, gave, ended, stopped, full, andThen, fits, withRow, appear, newAtom, guardIf, keep, withPlace, guardsGenerated, guardsStored, generate, store, placeOf, keyAt, get, perform, runSteps, commandAt, call}
+use Rattle.model.specs.Value.{Value, const, fresh, enc, dec, isConst, valueAt, compute, operands, present}
+use Rattle.model.specs.Token.{Key, World, State, Room, Out, gave, ended, stopped, full, andThen, fits, withRow, appear, newAtom, guardIf, keep, withPlace, guardsGenerated, guardsStored, generate, store, placeOf, keyAt, get, perform, runSteps, commandAt, call}
 use Rattle.model.specs.Session.{Arg, constant, ofLine, Line, calls, computes, Outcome, value, none, Finished, Session, outcomesOf, start, isValue, inHand, breached, argument, appearing, withArguments, runLine, finishedAs, finish, Run, afterLine, runFrom, run}
 use Rattle.model.specs.declared.Step.{Step}
 use Rattle.model.proofs.Tests.{and-left, and-right, and-both, either, apply, each, met, first-or-later}

@@ -1,7 +1,6 @@
 -- The order of the types is a partial order, and the join of two types is their least upper bound: each a test that antt computes over all types.
 -- Assumes nothing.
 use mathlib.Core.Path.{_≡_, refl, sym, ap, _∙_}
-use mathlib.Core.Bool.{Bool, true, false}
 use lib.Dec.{T, eqb→eq}
 use Rattle.model.specs.Basics.{implies}
 use Rattle.model.specs.Types.{Ty, Un, TData, Data, Wrap, Seed, Any, None, typeOfCode, codeOf, is, typed, below, join}

@@ -1,10 +1,10 @@
 -- What the typing rules mean for values whose own types are below the static ones: each fact is a test that antt computes over all types,
 -- or over all templates. A new type or a changed rule only recomputes them.
 -- Assumes nothing.
-use Prim.Native.Nat.{ℕ, zero, suc, _<_}
-use mathlib.Core.Bool.{Bool, true, false, not, cond, _&&_}
+use Prim.Native.Nat.{ℕ, _<_}
+use mathlib.Core.Bool.{Bool, not, cond, _&&_}
 use native.Mathlib.Omega.{arith}
-use lib.Dec.{T, ltb→lt}
+use lib.Dec.{T}
 use Rattle.model.specs.Basics.{implies, every, upFrom}
 use Rattle.model.specs.Types.{Ty, Un, None, is, typed, below, join, typeOf}
 use Rattle.model.specs.Policy.{templates}

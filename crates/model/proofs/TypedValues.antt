@@ -1,8 +1,8 @@
 -- The type of a value, from the types that its atoms were given when they were made; lists of things that are all right.
 -- Assumes nothing.
-use Prim.Native.Nat.{ℕ, zero, suc, _≤_, _<_}
+use Prim.Native.Nat.{ℕ, zero, suc, _<_}
 use mathlib.Core.Path.{_≡_, refl, sym, ap, ap₂, subst, _∙_}
-use mathlib.Core.Bool.{Bool, true, false, cond, decide, _&&_}
+use mathlib.Core.Bool.{Bool, true, false, cond, decide}
 use mathlib.Core.List.{List, [], _∷_, _++_}
 use native.Mathlib.Omega.{arith}
 use native.Mathlib.Decide.{ℕ-discrete}
@@ -12,7 +12,7 @@ use Rattle.model.specs.Basics.{indexBy, some}
 use Rattle.model.specs.Types.{Ty, Un, None, typed, below}
 use Rattle.model.specs.Typing.{decryptOk, decryptType, typeAt}
 use Rattle.model.specs.Value.{Value, const, fresh, enc, dec, same, decrypt, value-discrete, valueAt}
-use Rattle.model.specs.Session.{Outcome, Finished, outcomesOf}
+use Rattle.model.specs.Session.{Finished, outcomesOf}
 use Rattle.model.proofs.Tests.{and-left, and-right, and-both}
 use Rattle.model.proofs.TypeOrder.{below-typed}
 use Rattle.model.proofs.TypeRules.{encType, decType, decrypt-sound, undo-sound, enc-parts-typed, dec-parts-typed}

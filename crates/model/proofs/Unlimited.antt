@@ -1,11 +1,11 @@
 -- Where there is no limit on room every line of every session finishes, so that demand 3 there speaks of all of them.
 -- Assumes nothing.
-use Prim.Native.Nat.{ℕ, zero, suc, _+_}
+use Prim.Native.Nat.{ℕ, suc, _+_}
 use mathlib.Core.Path.{_≡_, refl, _∙_}
 use mathlib.Core.Bool.{Bool, true, false, cond, _&&_}
 use mathlib.Core.List.{List, [], _∷_, _++_}
 use native.Mathlib.Omega.{arith}
-use lib.Dec.{T, eqb, ltb}
+use lib.Dec.{eqb, ltb}
 use lib.ListN.{length, length-append}
 use Rattle.model.specs.Step.{Op, Return, Get, Generate, Store, Compute, Unknown, opOf, Command}
 use Rattle.model.specs.Policy.{meets}

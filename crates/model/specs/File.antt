@@ -1,6 +1,6 @@
 -- A whole input: its refusal, with number and frame, or the file that it holds: the scope's section "Numbers of the answers", 1 to 7.
 use Prim.Native.Nat.{ℕ, zero, suc}
-use mathlib.Core.Bool.{Bool, true, false, cond}
+use mathlib.Core.Bool.{cond}
 use mathlib.Core.List.{List, [], _∷_}
 use lib.Dec.{eqb, leb}
 use lib.ListN.{length}

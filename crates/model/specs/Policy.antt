@@ -1,9 +1,8 @@
 -- What a policy allows, and the type of a key that a step gets under it: the scope's sections "Files" and "Typing of steps".
-use Prim.Native.Nat.{ℕ, zero, suc, _/_, _%_, _^_}
-use mathlib.Core.Bool.{Bool, true, false, _&&_}
+use Prim.Native.Nat.{ℕ, _/_, _%_, _^_}
+use mathlib.Core.Bool.{Bool, _&&_}
 use mathlib.Core.List.{List, [], _∷_}
 use lib.Dec.{eqb, ltb}
-use lib.ListN.{length}
 use Rattle.model.specs.Basics.{implies, every, those, upFrom}
 use Rattle.model.specs.Types.{Ty, None, typed, typeOf, join, contains}
 use Rattle.model.specs.declared.Step.{Step}

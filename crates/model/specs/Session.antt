@@ -1,7 +1,7 @@
 -- Sessions: lines that call commands or compute, one after the other, and the breach mark: the scope's sections
 -- "The token and the attacker" and, for the place of an ending, "Numbers of the answers".
-use Prim.Native.Nat.{ℕ, zero, suc}
-use mathlib.Core.Bool.{Bool, true, false, _||_}
+use Prim.Native.Nat.{ℕ, suc}
+use mathlib.Core.Bool.{Bool, false, _||_}
 use mathlib.Core.List.{List, [], _∷_, _++_, map}
 use lib.ListN.{getD, length}
 use Rattle.model.specs.Basics.{some}

@@ -1,6 +1,6 @@
 -- The token: its stored keys, and what each step of a call does: the scope's section "The token and the attacker".
 -- The run endings 32 and 33 are here too, since a step meets them; how much room there is, if it is limited at all, is a parameter.
-use Prim.Native.Nat.{ℕ, zero, suc}
+use Prim.Native.Nat.{ℕ, suc}
 use mathlib.Core.Bool.{Bool, true, false, cond, _&&_, _||_}
 use mathlib.Core.List.{List, [], _∷_, _++_}
 use lib.Dec.{ltb, eqb}

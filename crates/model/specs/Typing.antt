@@ -1,12 +1,12 @@
 -- The verdict: the scope's section "Typing of steps", and its verdict refusals 16 to 22.
 use Prim.Native.Nat.{ℕ, zero, suc}
-use mathlib.Core.Bool.{Bool, true, false, cond, _&&_, _||_}
+use mathlib.Core.Bool.{Bool, cond, _&&_, _||_}
 use mathlib.Core.List.{List, [], _∷_, _++_}
 use lib.Dec.{ltb}
 use lib.ListN.{getD, length, replicate}
 use Rattle.model.specs.Basics.{_else_then_}
 use Rattle.model.specs.Types.{Ty, Un, Data, Wrap, is, below, typeOf}
-use Rattle.model.specs.Step.{Op, Return, Get, Generate, Store, Compute, Unknown, Operation, Encrypt, Decrypt, opOf, Command}
+use Rattle.model.specs.Step.{Op, Return, Get, Generate, Store, Compute, Unknown, Encrypt, Decrypt, opOf, Command}
 use Rattle.model.specs.Policy.{Policy, allows, offered, getType}
 use Rattle.model.specs.declared.Step.{Step}
 use Rattle.model.specs.declared.Verdict.{Verdict}
