@@ -1,0 +1,2 @@
+-- What this crate proves besides its functions' contracts.
+pub mod Laws
