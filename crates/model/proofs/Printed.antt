@@ -7,19 +7,19 @@ use mathlib.Core.List.{List, [], _∷_, _++_}
 use native.Mathlib.Omega.{arith}
 use lib.Dec.{T, eqb, leb, eqb→eq, leb→le, T-not, not-T}
 use lib.ListN.{length}
-use Rattle.model.specs.Basics.{_else_then_, indexBy, some, upFrom}
+use Rattle.model.specs.Basics.{All, _else_then_, indexBy, some, upFrom}
 use Rattle.model.specs.Types.{typed, typeOfCode}
 use Rattle.model.specs.Policy.{lawful}
 use Rattle.model.specs.Typing.{verdict, accepted, findings}
-use Rattle.model.specs.Session.{Finished}
+use Rattle.model.specs.Session.{Finished, Flat}
 use Rattle.model.specs.Text.{TextLine, linesOf, wellWritten, bytesOf, written}
 use Rattle.model.specs.Frame.{File, Reading, nothingRead, Kind, policyKind, commandKind, lineKind, otherKind, kindOf, byteAt, policyOf, policyFormed, inPlace, bodyRefusal, frameRefusal, withFrame}
 use Rattle.model.specs.File.{Parsed, refused, file, lineRefusal, afterFrame, unlessRefused, parseFrom, parse}
 use Rattle.model.specs.Report.{runOf, verdictFrame, lineFrames, firstBreach, answerTo, answer, programRoom}
 use Rattle.model.proofs.Tests.{and-right, met, every-in-range}
-use Rattle.model.proofs.TypedValues.{All, none-passes}
+use Rattle.model.proofs.TypedValues.{none-passes}
 use Rattle.model.proofs.Acceptance.{no-refusal, all-met}
-use Rattle.model.proofs.Secure.{Lawful, Flat, accepted-is-flat}
+use Rattle.model.proofs.Secure.{Lawful, accepted-is-flat}
 
 -- ---- the policy of a file that is read is lawful
 

@@ -9,19 +9,19 @@ use mathlib.Core.List.{List, [], _∷_, _++_}
 use native.Mathlib.Omega.{arith}
 use lib.Dec.{T, eqb, ltb, eqb→eq, ltb→lt, T-not, not-T}
 use lib.ListN.{length, replicate}
-use Rattle.model.specs.Basics.{_else_then_, some, those, upFrom, implies}
+use Rattle.model.specs.Basics.{All, _else_then_, some, those, upFrom, implies}
 use Rattle.model.specs.Types.{Ty, Un, None, is, typed, below, typeOf}
 use Rattle.model.specs.Step.{Op, Return, Get, Generate, Store, Compute, Unknown, Operation, Encrypt, Decrypt, opOf, Command}
 use Rattle.model.specs.Policy.{Policy, allows, meets, joinOf, getType, lawful}
 use Rattle.model.specs.Typing.{returnOk, storeOk, encryptOk, decryptOk, refusal, gives, typeAt, stepGives, stepFindings, findings, verdict}
 use Rattle.model.specs.Value.{Value, const, fresh, enc, dec, isConst, valueAt, compute, operands, present}
 use Rattle.model.specs.Token.{Key, World, State, Room, Out, gave, ended, stopped, full, andThen, fits, withRow, appear, newAtom, guardIf, keep, withPlace, guardsGenerated, guardsStored, generate, store, placeOf, keyAt, get, perform, runSteps, commandAt, call}
-use Rattle.model.specs.Session.{Arg, constant, ofLine, Line, calls, computes, Outcome, value, none, Finished, Session, outcomesOf, start, isValue, inHand, breached, argument, appearing, withArguments, runLine, finishedAs, finish, Run, afterLine, runFrom, run}
+use Rattle.model.specs.Session.{Arg, constant, ofLine, Line, calls, computes, Outcome, value, none, Finished, Flat, Session, outcomesOf, start, isValue, inHand, breached, argument, appearing, withArguments, runLine, finishedAs, finish, Run, afterLine, runFrom, run}
 use Rattle.model.specs.declared.Step.{Step}
 use Rattle.model.proofs.Tests.{and-left, and-right, and-both, either, apply, each, met, first-or-later}
 use Rattle.model.proofs.TypeOrder.{below-trans, below-refl, below-typed, join-left}
 use Rattle.model.proofs.TypeRules.{encrypt-sound, return-sound, store-sound, below-wider-join, at-template, generated-guarded, stored-guarded}
-use Rattle.model.proofs.TypedValues.{same-equal, All, all-map, all-snoc, all-getD, none-passes, outcomes-snoc, Births, Later, later-refl, later-trans, born, born-later, born-at, born-other, typeIn, type-kept, Has, has-kept, decrypt-has, Match, match-kept, match-snoc, match-at, match-start}
+use Rattle.model.proofs.TypedValues.{same-equal, all-map, all-snoc, all-getD, none-passes, outcomes-snoc, Births, Later, later-refl, later-trans, born, born-later, born-at, born-other, typeIn, type-kept, Has, has-kept, decrypt-has, Match, match-kept, match-snoc, match-at, match-start}
 use Rattle.model.proofs.Acceptance.{Met, SoundCommand, all-sound, no-refusal, no-steps-sound}
 
 -- ---- a get is typed above every template that it may find
@@ -47,10 +47,6 @@ offered-below-join q n (suc k) m low high t ty =
 
 pub is-un : (a : Ty) → T (below a Un) → T (is a Un)
 is-un a = apply (below a Un) (is a Un) (each (λ x. implies (below x Un) (is x Un)) tt a)
-
--- a finished line without a breach mark
-abbrev pub Flat : Finished → Type 0
-Flat f = T (not (f .breach))
 
 -- a policy as reading lets it through
 pub record Lawful (p : Policy) : Type 0 where

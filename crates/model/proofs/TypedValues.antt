@@ -8,7 +8,7 @@ use native.Mathlib.Omega.{arith}
 use native.Mathlib.Decide.{ℕ-discrete}
 use lib.Dec.{T, eqb, ltb, eqb→eq, eqb-refl, ltb→lt, lt→ltb}
 use lib.ListN.{getD, length, replicate}
-use Rattle.model.specs.Basics.{indexBy, some}
+use Rattle.model.specs.Basics.{All, indexBy, some}
 use Rattle.model.specs.Types.{Ty, Un, None, typed, below}
 use Rattle.model.specs.Typing.{decryptOk, decryptType, typeAt}
 use Rattle.model.specs.Value.{Value, const, fresh, enc, dec, same, decrypt, value-discrete, valueAt}
@@ -29,10 +29,6 @@ unfolding same
 same-equal v w t = decided (value-discrete ℕ-discrete v w) t
 
 -- ---- every element of a list
-
-abbrev pub All : {A : Type 0} → (A → Type 0) → List A → Type 0
-All P [] = Unit {0}
-All P (x ∷ xs) = P x × All P xs
 
 pub all-map : {A : Type 0} (P Q : A → Type 0) → ((a : A) → P a → Q a) → (l : List A) → All P l → All Q l
 all-map P Q f [] h = tt

@@ -29,6 +29,11 @@ abbrev pub every : {A : Type 0} → (A → Bool) → List A → Bool
 every q [] = true
 every q (x ∷ xs) = q x && every q xs
 
+-- the same of a statement
+abbrev pub All : {A : Type 0} → (A → Type 0) → List A → Type 0
+All P [] = Unit {0}
+All P (x ∷ xs) = P x × All P xs
+
 -- the elements that pass the test, in their order
 unfoldable pub those : {A : Type 0} → (A → Bool) → List A → List A
 those q [] = []

@@ -1,8 +1,9 @@
 -- Sessions: lines that call commands or compute, one after the other, and the breach mark: the scope's sections
 -- "The token and the attacker" and, for the place of an ending, "Numbers of the answers".
 use Prim.Native.Nat.{ℕ, suc}
-use mathlib.Core.Bool.{Bool, false, _||_}
+use mathlib.Core.Bool.{Bool, false, not, _||_}
 use mathlib.Core.List.{List, [], _∷_, _++_, map}
+use lib.Dec.{T}
 use lib.ListN.{getD, length}
 use Rattle.model.specs.Basics.{some}
 use Rattle.model.specs.Step.{Operation, Command}
@@ -28,6 +29,10 @@ pub record Finished : Type 0 where
   pub row : ℕ
   pub keys : ℕ
   pub breach : Bool
+
+-- a finished line without a breach mark
+abbrev pub Flat : Finished → Type 0
+Flat f = T (not (f .breach))
 
 abbrev pub outcomesOf : List Finished → List Outcome
 outcomesOf fs = map (λ f. f .outcome) fs
