@@ -6,6 +6,9 @@ pub mod Acceptance
 pub mod Secure
 pub mod Printed
 pub mod Unlimited
+pub mod WellRead
+pub mod Codings
+pub mod Unique
 pub mod Marked
 pub mod Cases
 pub mod Witnesses

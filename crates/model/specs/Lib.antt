@@ -10,3 +10,4 @@ pub mod Text
 pub mod Frame
 pub mod File
 pub mod Report
+pub mod Tables

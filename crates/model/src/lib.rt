@@ -15,3 +15,17 @@ pub struct Verdict {
     pub frame: usize,
     pub step: usize,
 }
+
+// What reading an input comes to: the refusal's number and frame; or the transported type's code, the set of allowed
+// templates, and how many commands and session lines there are.
+pub enum ReadAnswer {
+    Refused(usize, usize),
+    Taken(u8, u64, usize, usize),
+}
+
+// What running a session comes to: the refusal's number and frame; or the ending and its place, and the first breached
+// line, 65535 where there is none.
+pub enum RunAnswer {
+    Refused(usize, usize),
+    Ended(usize, usize, usize),
+}

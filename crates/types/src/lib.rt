@@ -117,7 +117,7 @@ pub fn join_of(a: u8, b: u8) -> u8
 }
 
 // The field of a step may hold more than the six attributes; what stands above them asks for nothing.
-fn meets_template(s: Step, m: u8) -> bool
+pub fn meets_template(s: Step, m: u8) -> bool
     requires { ⌜ m < 64 ⌝ }
     ensures { λ r. ⌜ r ≡ meets s m ⌝ }
 {

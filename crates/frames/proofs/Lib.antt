@@ -1,0 +1,11 @@
+pub mod Lists
+pub mod Numbers
+pub mod Turns
+pub mod Tables
+pub mod Policy
+pub mod Steps
+pub mod Commands
+pub mod Arguments
+pub mod Lines
+pub mod Cut
+pub mod Reading

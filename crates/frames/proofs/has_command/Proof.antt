@@ -1,0 +1,26 @@
+-- `frames::has_command` meets its contract, by whether the number is below n.
+-- Assumes nothing.
+use Rattle.frames.proofs.has_command.Statement.{statement}
+use Rattle.frames.proofs.has_command.Tie as tie
+use borrow.Author.Tests.{lt-ltb, le-ltb}
+use native.Mathlib.Omega.{arith}
+use borrow.Author.Needs.{needs}
+
+wide-requires : tie.Need-wide-requires
+wide-requires c κs = search needs
+
+mul-result : tie.Need-mul-result
+mul-result c = search needs
+
+shared-slice-read-result : tie.Need-shared-slice-read-result
+shared-slice-read-result c = search needs
+
+returns : tie.Need-returns
+returns c = rw (c .before .wide .ensures .0, lt-ltb (c .before .before .before .before .args .number) (c .before .before .before .before .args .n) (omega arith))
+
+returns-2 : tie.Need-returns-2
+returns-2 c = rw (le-ltb (c .before .before .args .number) (c .before .before .args .n) (omega arith))
+
+pub has-command-spec : {M : Type 1} → statement M
+has-command-spec =
+    tie.close (tie.spec wide-requires mul-result shared-slice-read-result returns returns-2)
