@@ -6,6 +6,7 @@ use mathlib.Core.Bool.{Bool, true, false, not, cond, _&&_}
 use mathlib.Core.List.{List, [], _∷_, _++_}
 use native.Mathlib.Omega.{arith}
 use lib.Dec.{T, eqb, ltb, leb, eqb→eq, ltb→lt, leb→le, lt→ltb, le→leb, nleb→lt, not-T}
+use borrow.Author.Tests.{ne-eqb}
 use lib.ListN.{length, drop, length-append, length-drop}
 use Rattle.model.specs.Basics.{_else_then_, every}
 use Rattle.model.specs.Step.{Command}
@@ -13,7 +14,7 @@ use Rattle.model.specs.Session.{Arg, constant, ofLine, Line, calls, comp
 use Rattle.model.specs.Text.{TextLine, linesOf, isDigit, digitValue, inPairs, wellWritten, bytesOf, numberFrom}
 use Rattle.model.specs.Frame.{File, Reading, nothingRead, Kind, policyKind, commandKind, lineKind, otherKind, kindOf, byteAt, policyFormed, policyOf, stepsOf, stepFormed, returnsLast, commandOf, commandFormed, namesMade, argOf, argsOf, lineBy, lineOf, computeFormed, lineFormed, lineNames, inPlace, bodyRefusal, frameRefusal, withFrame}
 use Rattle.model.specs.File.{Parsed, refused, file, lineRefusal, afterFrame, unlessRefused, parseFrom, parse}
-use Rattle.model.specs.Tables.{commandRead, argRead, argsOfLine, lineRead, linesRead, WellRead}
+use Rattle.model.specs.Tables.{commandRead, argRead, argsOfLine, lineRead, linesRead, hasOperands, WellRead}
 use Rattle.model.specs.declared.Step.{Step}
 use Rattle.model.proofs.Tests.{and-left, and-right, and-both, met}
 
@@ -133,6 +134,33 @@ line-read f cs n bytes formed named =
     (and-both (leb (length args) 4) (every argRead args) (le→leb (length args) 4 few-args) (args-read (drop 4 f) (every-drop small 4 f bytes))))
     named
 
+args-of-pairs : (n : ℕ) (part : List ℕ) → length part ≡ 2 * n → length (argsOf part) ≡ n
+unfolding argsOf
+args-of-pairs zero [] e = refl
+args-of-pairs zero (x ∷ rest) e = absurd (omega arith)
+args-of-pairs (suc n) [] e = absurd (omega arith)
+args-of-pairs (suc n) (x ∷ []) e = absurd (omega arith)
+args-of-pairs (suc n) (x ∷ y ∷ rest) e = let rest-paired = args-of-pairs n rest (omega arith) in omega arith
+
+operands-read : (f : List ℕ) → T (lineFormed f) → T (hasOperands (lineOf f))
+operands-read f formed =
+    let sized : Bool = leb (byteAt f 1) 2 && leb (byteAt f 3) 4 && eqb (length f) (4 + 2 * byteAt f 3) in
+    let long = eqb→eq (length f) (4 + 2 * byteAt f 3)
+        (and-right (leb (byteAt f 1) 2 && leb (byteAt f 3) 4) (eqb (length f) (4 + 2 * byteAt f 3))
+        (and-left sized (cond (eqb (byteAt f 1) 0) true (computeFormed f)) formed)) in
+    by-kind (byteAt f 1) (and-right sized (cond (eqb (byteAt f 1) 0) true (computeFormed f)) formed) (λ two.
+    args-of-pairs 2 (drop 4 f) (omega (arith, length-drop 4 f)))
+  where
+    two-operands : T (computeFormed f) → (byteAt f 3 ≡ 2 → length (argsOf (drop 4 f)) ≡ 2) → T (eqb (length (argsOf (drop 4 f))) 2)
+    two-operands t counted =
+        rw (counted (eqb→eq (byteAt f 3) 2 (and-right (eqb (byteAt f 2) 0) (eqb (byteAt f 3) 2) t))) tt
+
+    by-kind : (k : ℕ) → T (cond (eqb k 0) true (computeFormed f)) → (byteAt f 3 ≡ 2 → length (argsOf (drop 4 f)) ≡ 2)
+        → T (hasOperands (lineBy k (byteAt f 2) (argsOf (drop 4 f))))
+    by-kind zero t counted = tt
+    by-kind (suc zero) t counted = two-operands t counted
+    by-kind (suc (suc k)) t counted = two-operands (rw (ne-eqb (suc (suc k)) 0 (λ q. omega arith)) at t) counted
+
 after-policy : (c : Reading) (f : List ℕ) → Sound c → T (eqb (c .place) 0) → Sound (withFrame (c .file) policyKind f)
 after-policy c f s placed = record {
   well-read = record {
@@ -140,6 +168,7 @@ after-policy c f s placed = record {
     few-lines = s .well-read .few-lines;
     commands-read = s .well-read .commands-read;
     lines-read = s .well-read .lines-read;
+    operands-read = s .well-read .operands-read;
   };
   no-lines-yet = λ _. let start = eqb→eq (c .place) 0 placed in s .no-lines-yet (omega arith);
 }
@@ -161,6 +190,7 @@ after-command c f s placed e =
         commands-read = every-snoc commandRead (c .file .commands) (commandOf f) (s .well-read .commands-read)
             (command-read f (formed .0) (named .0));
         lines-read = subst (λ (ls : List Line). T (linesRead (c .file .commands ++ commandOf f ∷ []) 0 ls)) (sym none-yet) tt;
+        operands-read = s .well-read .operands-read;
       };
       no-lines-yet = λ _. none-yet;
     }
@@ -180,6 +210,7 @@ after-line c f s bytes e =
         lines-read = lines-read-snoc (c .file .commands) 0 (c .file .lines) (lineOf f) (s .well-read .lines-read)
             (subst (λ (m : ℕ). T (lineRead (c .file .commands) m (lineOf f))) (let e : n ≡ 0 + n = omega arith in e)
             (line-read f (c .file .commands) n bytes (formed .0) (named .0)));
+        operands-read = every-snoc hasOperands (c .file .lines) (lineOf f) (s .well-read .operands-read) (operands-read f (formed .0));
       };
       no-lines-yet = λ l. absurd (omega arith);
     }
@@ -221,7 +252,7 @@ taken-from (l ∷ ls) k c s =
 nothing-sound : Sound nothingRead
 unfolding linesRead
 nothing-sound = record {
-  well-read = record { few-commands = omega arith; few-lines = omega arith; commands-read = tt; lines-read = tt };
+  well-read = record { few-commands = omega arith; few-lines = omega arith; commands-read = tt; lines-read = tt; operands-read = tt };
   no-lines-yet = λ _. refl;
 }
 

@@ -142,11 +142,17 @@ unfoldable pub linesRead : List Command → ℕ → List Line → Bool
 linesRead cs n [] = true
 linesRead cs n (l ∷ ls) = lineRead cs n l && linesRead cs (suc n) ls
 
+-- an operation of the attacker's own has its two operands
+abbrev pub hasOperands : Line → Bool
+hasOperands (calls c args) = true
+hasOperands (computes o args) = eqb (length args) 2
+
 pub record WellRead (φ : File) : Type 0 where
   pub few-commands : length (φ .commands) ≤ 32
   pub few-lines : length (φ .lines) ≤ 1024
   pub commands-read : T (every commandRead (φ .commands))
   pub lines-read : T (linesRead (φ .commands) 0 (φ .lines))
+  pub operands-read : T (every hasOperands (φ .lines))
 
 -- what an input with lent tables comes to: their lengths are checked before all else
 unfoldable pub readInto : Tables → List ℕ → Parsed

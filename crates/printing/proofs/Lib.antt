@@ -1,0 +1,2 @@
+-- The proof files that belong to no one function.
+pub mod Laws

@@ -1,0 +1,4 @@
+-- What the contracts of src/ cite.
+pub mod Coding
+pub mod Interning
+pub mod Holds
