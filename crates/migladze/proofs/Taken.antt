@@ -22,7 +22,7 @@ use Rattle.typing.specs.Given.{Given}
 
 -- ---- a refusal
 
-refused-answer : (p : Parsed) (n k : ℕ) → read.Refused n k ≡ readAnswer p → p ≡ refused n k
+pub refused-answer : (p : Parsed) (n k : ℕ) → read.Refused n k ≡ readAnswer p → p ≡ refused n k
 unfolding readAnswer
 refused-answer (refused i j) n k e = cc
 refused-answer (file φ) n k e = absurd (let z : _≡_ {A = ℕ} 0 1 = cc in omega arith)

@@ -7,6 +7,7 @@ pub mod Secure
 pub mod Printed
 pub mod Unlimited
 pub mod WellRead
+pub mod Fits
 pub mod Codings
 pub mod Unique
 pub mod Marked

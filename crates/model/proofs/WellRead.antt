@@ -146,8 +146,8 @@ operands-read : (f : List ℕ) → T (lineFormed f) → T (hasOperands (lineOf f
 operands-read f formed =
     let sized : Bool = leb (byteAt f 1) 2 && leb (byteAt f 3) 4 && eqb (length f) (4 + 2 * byteAt f 3) in
     let long = eqb→eq (length f) (4 + 2 * byteAt f 3)
-        (and-right (leb (byteAt f 1) 2 && leb (byteAt f 3) 4) (eqb (length f) (4 + 2 * byteAt f 3))
-        (and-left sized (cond (eqb (byteAt f 1) 0) true (computeFormed f)) formed)) in
+    (and-right (leb (byteAt f 1) 2 && leb (byteAt f 3) 4) (eqb (length f) (4 + 2 * byteAt f 3))
+    (and-left sized (cond (eqb (byteAt f 1) 0) true (computeFormed f)) formed)) in
     by-kind (byteAt f 1) (and-right sized (cond (eqb (byteAt f 1) 0) true (computeFormed f)) formed) (λ two.
     args-of-pairs 2 (drop 4 f) (omega (arith, length-drop 4 f)))
   where

@@ -1,0 +1,5 @@
+pub mod Marks
+pub mod Settling
+pub mod Hand
+pub mod Progress
+pub mod Running

@@ -1,0 +1,39 @@
+-- `token::undo_line` meets its contract: the rows and the keys of the earlier state are left, and its guarded values stand where they stood.
+-- Assumes nothing.
+use mathlib.Core.Path.{ap, _∙_}
+use borrow.Author.Needs.{needs}
+use lib.ListN.{length}
+use Rattle.token.proofs.Growing.{same-rows, same-keys}
+use Rattle.token.proofs.Undoing.{zeros-after-keys, carries-earlier}
+use Rattle.token.proofs.undo_line.Statement.{statement}
+use Rattle.token.proofs.undo_line.Tie as tie
+
+forget-rows-requires : tie.Need-forget-rows-requires
+forget-rows-requires c κs = search needs
+
+forget-keys-requires : tie.Need-forget-keys-requires
+forget-keys-requires c κs = search needs
+
+same-length : tie.Need-same-length
+same-length c = search needs
+
+same-length-2 : tie.Need-same-length-2
+same-length-2 c = search needs
+
+returns : tie.Need-returns
+returns c =
+    let k = c .before .before in
+    let f = k .before .before .before .before in
+    let later = f .before .before .before .before .args .later in
+    λ σ σ′ gs T C E first last.
+    let H =
+    f .forget-rows .ensures (σ .world .rows) (E .new-rows) (rw (E .rows-grown) at (C .rows-held)) (same-rows first)
+    (same-rows last ∙ ap length (E .rows-grown))
+    in
+    let K = k .forget-keys .ensures in
+    carries-earlier T C E (H .0) (same-keys first) (K .cut (zeros-after-keys C (later .keys) (same-keys last))) (K .length-kept)
+
+pub undo-line-spec : {M : Type 1} → statement M
+undo-line-spec =
+    tie.close
+    (tie.spec forget-rows-requires forget-keys-requires same-length same-length-2 returns)

@@ -1,0 +1,3 @@
+-- What the contracts of src/ cite.
+pub mod Carried
+pub mod Numbers
