@@ -1,3 +1,4 @@
 -- The laws that the entries' proofs cite.
 pub mod Taken
 pub mod Running
+pub mod Reporting

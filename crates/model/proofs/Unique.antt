@@ -1,11 +1,13 @@
 -- What each public promise allows is one possibility only, and nothing counts but the input's bytes and the tables' lengths.
 -- Assumes nothing.
-use Prim.Native.Nat.{ℕ}
+use Prim.Native.Nat.{ℕ, _≤_}
 use mathlib.Core.Path.{_≡_, refl, sym, _∙_}
 use mathlib.Core.List.{List}
+use native.Mathlib.Omega.{arith}
+use native.Mathlib.Decide.{decLe}
 use lib.ListN.{length}
 use Rattle.model.specs.File.{Parsed, refused, file}
-use Rattle.model.specs.Tables.{Tables, readInto, tablesRead, tablesRun, ReadIs, VerdictIs, RunIs}
+use Rattle.model.specs.Tables.{Tables, readInto, tablesRead, tablesRun, ReadIs, VerdictIs, RunIs, reportSize, ReportIs}
 use Rattle.model.specs.declared.Verdict.{Verdict}
 use Rattle.model.specs.declared.ReadAnswer.{ReadAnswer}
 use Rattle.model.specs.declared.RunAnswer.{RunAnswer}
@@ -21,6 +23,26 @@ verdict-unique h k = (h .answer ∙ sym (k .answer), h .tables ∙ sym (k .table
 pub run-unique : {input : List ℕ} {lent left left′ : Tables} {r r′ : RunAnswer} → RunIs input lent r left → RunIs input lent r′ left′
     → (r ≡ r′) × (left ≡ left′)
 run-unique h k = (h .answer ∙ sym (k .answer), h .tables ∙ sym (k .tables))
+
+pub report-unique : {input space buffer buffer′ : List ℕ} {lent left left′ : Tables} {r r′ : ℕ} → ReportIs input lent space r left buffer
+    → ReportIs input lent space r′ left′ buffer′ → (r ≡ r′) × (left ≡ left′) × (buffer ≡ buffer′)
+report-unique {input} {space} {buffer} {buffer′} {lent} {left} {left′} {r} {r′} h k =
+    go (decLe (length space) reportSize) (decLe reportSize (length space))
+  where
+    untouched : (length space ≡ reportSize → ⊥) → (r ≡ r′) × (left ≡ left′) × (buffer ≡ buffer′)
+    untouched other =
+        let a = h .wrong-size other in
+        let b = k .wrong-size other in
+        (a .count ∙ sym (b .count), a .tables ∙ sym (b .tables), a .buffer-is ∙ sym (b .buffer-is))
+
+    go : Dec (length space ≤ reportSize) → Dec (reportSize ≤ length space) → (r ≡ r′) × (left ≡ left′) × (buffer ≡ buffer′)
+    go (yes x) (yes y) =
+        let size : length space ≡ reportSize = omega arith in
+        let a = h .right-size size in
+        let b = k .right-size size in
+        (a .count ∙ sym (b .count), a .tables ∙ sym (b .tables), a .buffer-is ∙ sym (b .buffer-is))
+    go (no x) y = untouched (λ e. omega arith)
+    go (yes x) (no y) = untouched (λ e. omega arith)
 
 -- two sets of tables of the same lengths, whatever they hold
 pub record SameLengths (t u : Tables) : Type 0 where

@@ -13,7 +13,7 @@ use Rattle.model.specs.Token.{Key, Room}
 use Rattle.model.specs.Session.{Arg, constant, ofLine, Line, calls, computes, Finished, Flat, run}
 use Rattle.model.specs.Frame.{File, stepFormed, returnsLast, namesMade, lineNames}
 use Rattle.model.specs.File.{Parsed, refused, file, parse, verdictOf}
-use Rattle.model.specs.Report.{stoppedByte, firstBreach, runOf}
+use Rattle.model.specs.Report.{stoppedByte, firstBreach, runOf, answerTo}
 use Rattle.model.specs.declared.Step.{Step}
 use Rattle.model.specs.declared.Verdict.{Verdict}
 use Rattle.model.specs.declared.ReadAnswer.{ReadAnswer}
@@ -209,3 +209,23 @@ tablesRun t (file φ) =
 pub record RunIs (input : List ℕ) (lent : Tables) (r : RunAnswer) (left : Tables) : Type 0 where
   pub answer : r ≡ runAnswer (readInto lent input)
   pub tables : left ≡ tablesRun lent (readInto lent input)
+
+-- the bytes that the longest report takes: a verdict, 1,024 lines and an end
+abbrev pub reportSize : ℕ
+reportSize = 19476
+
+-- the program's whole output for the input, zeros after it, and the tables as the run leaves them
+pub record Reported (input : List ℕ) (lent : Tables) (r : ℕ) (left : Tables) (buffer : List ℕ) : Type 0 where
+  pub count : r ≡ length (answerTo (readInto lent input))
+  pub buffer-is : buffer ≡ padded reportSize (answerTo (readInto lent input))
+  pub tables : left ≡ tablesRun lent (readInto lent input)
+
+pub record Untouched (lent : Tables) (space : List ℕ) (r : ℕ) (left : Tables) (buffer : List ℕ) : Type 0 where
+  pub count : r ≡ 0
+  pub buffer-is : buffer ≡ space
+  pub tables : left ≡ lent
+
+-- the promise of the report: into a buffer of another size nothing is written
+pub record ReportIs (input : List ℕ) (lent : Tables) (space : List ℕ) (r : ℕ) (left : Tables) (buffer : List ℕ) : Type 0 where
+  pub right-size : length space ≡ reportSize → Reported input lent r left buffer
+  pub wrong-size : (length space ≡ reportSize → ⊥) → Untouched lent space r left buffer
