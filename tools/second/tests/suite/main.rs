@@ -1,0 +1,10 @@
+//! Tests of the checker, written from the documents: the worked listing, the
+//! marked cases, the limits, each refusal, and the readings taken.
+
+mod build;
+mod document;
+mod generator;
+mod limits;
+mod readings;
+mod refusals;
+mod verdicts;
