@@ -7,6 +7,7 @@
 
 pub mod frames;
 pub mod generate;
+pub mod process;
 pub mod report;
 pub mod session;
 pub mod text;

@@ -3,23 +3,10 @@
 
 use std::env;
 use std::fs;
-use std::io::{self, Write};
-use std::process::{Command, ExitCode, Stdio};
+use std::process::ExitCode;
 
+use second::process::output_of;
 use second::{generate, report};
-
-/// What the program writes when it is given the input.
-fn output_of(program: &str, input: &[u8]) -> io::Result<Vec<u8>> {
-    let mut child = Command::new(program)
-        .stdin(Stdio::piped())
-        .stdout(Stdio::piped())
-        .spawn()?;
-    // The program stops reading after the longest input that it takes.
-    if let Some(mut pipe) = child.stdin.take() {
-        let _ = pipe.write_all(input);
-    }
-    Ok(child.wait_with_output()?.stdout)
-}
 
 fn main() -> ExitCode {
     let words: Vec<String> = env::args().skip(1).collect();
