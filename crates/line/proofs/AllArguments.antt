@@ -22,7 +22,8 @@ use Rattle.token.specs.declared.Outcome.{Outcome}
 use Rattle.token.specs.declared.Outcome.the-variants.{Gave}
 use Rattle.line.specs.declared.Came.the-variants.{All, Off}
 use Rattle.token.proofs.Outcome.{the-type as outcome-type}
-use Rattle.line.proofs.States.{extends-itself, extends-further, performs-from-earlier, goes-on-when-given, ends-when-not-given, values-go-on}
+use Rattle.token.proofs.Undoing.{extends-refl, extends-trans}
+use Rattle.line.proofs.States.{performs-from-earlier, goes-on-when-given, ends-when-not-given, values-go-on}
 use Rattle.line.proofs.OneArgument.{argument-ready, finishing-kept}
 
 -- ---- the next argument
@@ -97,7 +98,7 @@ taking-begins twenty = record {
     args = as₀;
     vs = [];
     given = G;
-    extends = extends-itself σ;
+    extends = extends-refl σ;
     valued = record { has-row = λ i h. absurd (omega arith); is = λ i h. absurd (omega arith) };
     made = refl;
     same = λ next. refl;
@@ -174,7 +175,7 @@ module _ {before outcomes : List ℕ} {args count : ℕ} {entry : Counts} {rows 
               left-is = next .rest-left;
               count-is = next .rest-count;
             };
-            extends = extends-further (t .reached .extends) (went .extends);
+            extends = extends-trans (t .reached .extends) (went .extends);
             valued = values-go-on (t .reached .valued) went (sym (t .reached .made)) (omega (arith, L .twenty));
             made = length-append vs (went .v ∷ []) ∙ ap (λ n. n + 1) (t .reached .made);
             same = λ then. t .whole then ∙ ap (λ x. andThen x (λ v σ′. withArguments (roomOf before keys) fs (next .rest) (vs ++ v ∷ []) σ′ then)) (went .is);

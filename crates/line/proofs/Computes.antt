@@ -18,7 +18,8 @@ use Rattle.token.specs.declared.Counts.{Counts}
 use Rattle.token.specs.declared.Outcome.{Outcome}
 use Rattle.token.specs.declared.Outcome.the-variants as code
 use Rattle.token.proofs.Outcome.{the-type as outcome-type}
-use Rattle.line.proofs.States.{extends-itself, performs-from-earlier, goes-on-when-given, ends-when-not-given}
+use Rattle.token.proofs.Undoing.{extends-refl}
+use Rattle.line.proofs.States.{performs-from-earlier, goes-on-when-given, ends-when-not-given}
 
 abbrev stepBy : ℕ → Step
 stepBy op = record { op = op; a = 0; b = 0; t = 0 }
@@ -49,19 +50,19 @@ module _ (kind op : ℕ) (op-is : op ≡ cond (eqb kind 1) 4 5) where
 
     performs : Performs σ result o exit-rows exit-keys exit-guards
     performs =
-        performs-from-earlier (extends-itself σ) (sym (own-step-computes (roomOf rows keys) (valueAt (σ .world .rows) x) (valueAt (σ .world .rows) y) σ))
+        performs-from-earlier (extends-refl σ) (sym (own-step-computes (roomOf rows keys) (valueAt (σ .world .rows) x) (valueAt (σ .world .rows) y) σ))
         (did σ (S .carries) (S .few-atoms) (S .counts-are))
 
     pub computing-ends : OneOf (1 ∷ 2 ∷ 3 ∷ []) (tagOf outcome-type o)
         → Performs σ (computed (roomOf rows keys) (operationOf kind) (valueAt (σ .world .rows) x) (valueAt (σ .world .rows) y) σ) o exit-rows exit-keys exit-guards
-    computing-ends other = performs-from-earlier (extends-itself σ) (ends-when-not-given other result _ performs) performs
+    computing-ends other = performs-from-earlier (extends-refl σ) (ends-when-not-given other result _ performs) performs
 
     pub computing-gives : (c′ : Counts) (row : ℕ) → o ≡ code.Gave c′ row
         → Performs σ (computed (roomOf rows keys) (operationOf kind) (valueAt (σ .world .rows) x) (valueAt (σ .world .rows) y) σ) (code.Ended c′ row) exit-rows exit-keys exit-guards
     computing-gives c′ row e =
         let went = goes-on-when-given e result performs in
         let then : Value → State → Out = λ v σ′. ended v σ′ in
-        performs-from-earlier (extends-itself σ) (ap (λ u. andThen u then) (went .is))
+        performs-from-earlier (extends-refl σ) (ap (λ u. andThen u then) (went .is))
         (record {
           answer = ap₂ code.Ended (went .stands .counts-are) (went .row-is);
           has-row = went .there;

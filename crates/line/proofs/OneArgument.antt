@@ -30,7 +30,8 @@ use Rattle.token.specs.declared.Outcome as counted
 use Rattle.token.specs.declared.Outcome.the-variants as code
 use Rattle.line.specs.declared.Earlier.{Earlier}
 use Rattle.line.specs.declared.Earlier.the-variants as earlier
-use Rattle.line.proofs.States.{rows-counted, extends-itself, stop-performs}
+use Rattle.token.proofs.Undoing.{extends-refl}
+use Rattle.line.proofs.States.{rows-counted, stop-performs}
 
 -- ---- the tables with one constant more among the rows
 
@@ -129,7 +130,7 @@ present-appears {σ} ρ S v there row-is =
       has-row = there;
       atoms-rowed = S .few-atoms;
       carries = S .carries;
-      extends = extends-itself σ;
+      extends = extends-refl σ;
     })
 
 module _ {σ : State} {c : Counts} {rows keys guards : List ℕ} (S : Stands σ c rows keys guards) (k : ℕ) where
@@ -167,7 +168,7 @@ module _ {σ : State} {c : Counts} {rows keys guards : List ℕ} (S : Stands σ 
         has-row = tt;
         atoms-rowed = tt;
         carries = stands-anew S (subst (Holds _) (had .rows) (A .holds)) .carries;
-        extends = extends-itself σ;
+        extends = extends-refl σ;
       })
 
 -- ---- an earlier line

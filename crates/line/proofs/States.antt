@@ -3,7 +3,7 @@
 use Prim.Native.Nat.{ℕ, _≤_, _<_}
 use mathlib.Core.Path.{_≡_, refl, sym, ap, subst, _∙_}
 use mathlib.Core.Bool.{true}
-use mathlib.Core.List.{List, [], _∷_, _++_, append-nil, append-assoc}
+use mathlib.Core.List.{List, [], _∷_, _++_}
 use native.Mathlib.Omega.{arith}
 use native.Mathlib.Decide.{decLt}
 use types.Run.{OneOf, miss}
@@ -13,59 +13,26 @@ use lib.Seq.{getD-at, getD-set-same, getD-set-other}
 use Rattle.model.specs.Value.{Value, const, rowOf, present, valueAt}
 use Rattle.model.specs.Token.{State, Out, gave, ended, stopped, full, andThen}
 use Rattle.values.proofs.Present.{present-means-below, value-at-its-row}
-use Rattle.token.specs.Carried.{FewAtoms, Carries, countsOf, Extends, Performs, Ready}
+use Rattle.token.specs.Carried.{Extends, Performs, Ready}
 use Rattle.line.specs.Stages.{Stands, Valued}
 use Rattle.token.specs.declared.Counts.{Counts}
 use Rattle.token.specs.declared.Outcome.{Outcome}
 use Rattle.token.specs.declared.Outcome.the-variants as code
 use Rattle.token.proofs.Outcome.{the-type as outcome-type}
+use Rattle.token.proofs.Undoing.{extends-refl, extends-trans}
+use Rattle.token.proofs.Chaining.{ready-again, went}
 
 -- ---- what a state makes ready
-
-pub ready-of-carries : {σ : State} {rows keys guards : List ℕ} → Carries σ rows keys guards → FewAtoms σ → length rows ≤ 4096
-    → length keys ≤ 256 → Ready (countsOf σ) rows keys guards
-ready-of-carries C few small-rows small-keys = record {
-  rows-fit = C .rows-held .fit;
-  rows-small = small-rows;
-  keys-fit = C .keys-fit;
-  keys-small = small-keys;
-  few-atoms = few;
-  few-guards = C .tidy .few-guards;
-  guards-fit = C .guards-fit;
-}
 
 pub ready-where-it-stands : {σ : State} {c : Counts} {rows keys guards : List ℕ} → Stands σ c rows keys guards → length rows ≤ 4096
     → length keys ≤ 256 → Ready c rows keys guards
 ready-where-it-stands S small-rows small-keys =
-    rw (S .counts-are) (ready-of-carries (S .carries) (S .few-atoms) small-rows small-keys)
+    ready-again (S .carries) (S .few-atoms) (S .counts-are) small-rows small-keys
 
 pub rows-counted : {σ : State} {c : Counts} {rows keys guards : List ℕ} → Stands σ c rows keys guards → c .rows ≡ length (σ .world .rows)
 rows-counted S = ap (λ (k : Counts). k .rows) (S .counts-are)
 
 -- ---- later states
-
-pub extends-itself : (σ : State) → Extends σ σ
-extends-itself σ = record {
-  new-rows = [];
-  new-keys = [];
-  new-guarded = [];
-  rows-grown = sym (append-nil _);
-  keys-grown = sym (append-nil _);
-  guarded-grown = sym (append-nil _);
-}
-
-grown-twice : {A : Type 0} (xs us vs : List A) {ys zs : List A} → ys ≡ xs ++ us → zs ≡ ys ++ vs → zs ≡ xs ++ (us ++ vs)
-grown-twice xs us vs e f = f ∙ ap (λ l. l ++ vs) e ∙ append-assoc xs us vs
-
-pub extends-further : {σ σ′ σ″ : State} → Extends σ σ′ → Extends σ′ σ″ → Extends σ σ″
-extends-further {σ} E F = record {
-  new-rows = E .new-rows ++ F .new-rows;
-  new-keys = E .new-keys ++ F .new-keys;
-  new-guarded = E .new-guarded ++ F .new-guarded;
-  rows-grown = grown-twice (σ .world .rows) (E .new-rows) (F .new-rows) (E .rows-grown) (F .rows-grown);
-  keys-grown = grown-twice (σ .token .stored) (E .new-keys) (F .new-keys) (E .keys-grown) (F .keys-grown);
-  guarded-grown = grown-twice (σ .world .guarded) (E .new-guarded) (F .new-guarded) (E .guarded-grown) (F .guarded-grown);
-}
 
 -- what is done from a later state, where that is all that is left to do
 pub performs-from-earlier : {σ σ′ : State} {o o′ : Out} {r : Outcome} {rows keys guards : List ℕ} → Extends σ σ′ → o ≡ o′
@@ -77,7 +44,7 @@ performs-from-earlier {σ} {r = r} {rows = rows} {keys = keys} {guards = guards}
       has-row = P .has-row;
       atoms-rowed = P .atoms-rowed;
       carries = P .carries;
-      extends = extends-further E (P .extends);
+      extends = extends-trans E (P .extends);
     })
 
 pub stop-performs : {σ : State} {c : Counts} {rows keys guards : List ℕ} → Stands σ c rows keys guards
@@ -87,7 +54,7 @@ stop-performs {σ} S = record {
   has-row = tt;
   atoms-rowed = S .few-atoms;
   carries = S .carries;
-  extends = extends-itself σ;
+  extends = extends-refl σ;
 }
 
 -- ---- an outcome with which a line goes on, and one with which it ends
@@ -101,28 +68,19 @@ pub record Went (σ : State) (o : Out) (c : Counts) (row : ℕ) (rows keys guard
   pub there : present v (σ′ .world .rows) ≡ true
   pub extends : Extends σ σ′
 
-module _ {σ : State} {c : Counts} {row : ℕ} {r : Outcome} {rows keys guards : List ℕ} (e : r ≡ code.Gave c row) where
-  pub goes-on-when-given : (o : Out) → Performs σ o r rows keys guards → Went σ o c row rows keys guards
-  goes-on-when-given (gave v σ′) P =
-      let a : r ≡ code.Gave (countsOf σ′) (rowOf v (σ′ .world .rows)) = P .answer in
-      record {
-        v = v;
-        σ′ = σ′;
-        is = refl;
-        stands = record { carries = P .carries; few-atoms = P .atoms-rowed; counts-are = cc };
-        row-is = cc;
-        there = P .has-row;
-        extends = P .extends;
-      }
-  goes-on-when-given (ended v σ′) P =
-      let a : r ≡ code.Ended (countsOf σ′) (rowOf v (σ′ .world .rows)) = P .answer in
-      absurd (let z : _≡_ {A = ℕ} 0 1 = cc in omega arith)
-  goes-on-when-given (stopped σ′) P =
-      let a : r ≡ code.Stopped (countsOf σ′) = P .answer in
-      absurd (let z : _≡_ {A = ℕ} 0 1 = cc in omega arith)
-  goes-on-when-given (full n σ′) P =
-      let a : r ≡ code.Full n (countsOf σ′) = P .answer in
-      absurd (let z : _≡_ {A = ℕ} 0 1 = cc in omega arith)
+pub goes-on-when-given : {σ : State} {c : Counts} {row : ℕ} {r : Outcome} {rows keys guards : List ℕ} → r ≡ code.Gave c row
+    → (o : Out) → Performs σ o r rows keys guards → Went σ o c row rows keys guards
+goes-on-when-given e o P =
+    let given = went e P in
+    record {
+      v = given .value;
+      σ′ = given .state;
+      is = given .is;
+      stands = record { carries = given .carries; few-atoms = given .few-atoms; counts-are = given .counts };
+      row-is = sym (given .in-row .row);
+      there = given .in-row .there;
+      extends = given .extends;
+    }
 
 pub ends-when-not-given : {σ : State} {r : Outcome} {rows keys guards : List ℕ} → OneOf (1 ∷ 2 ∷ 3 ∷ []) (tagOf outcome-type r)
     → (o : Out) (next : Value → State → Out) → Performs σ o r rows keys guards → andThen o next ≡ o

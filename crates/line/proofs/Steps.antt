@@ -22,7 +22,8 @@ use Rattle.token.specs.declared.Counts.{Counts}
 use Rattle.token.specs.declared.Outcome.{Outcome}
 use Rattle.token.specs.declared.Outcome.the-variants as code
 use Rattle.token.proofs.Outcome.{the-type as outcome-type}
-use Rattle.line.proofs.States.{ready-where-it-stands, rows-counted, extends-itself, extends-further, performs-from-earlier, stop-performs, goes-on-when-given, ends-when-not-given, values-go-on}
+use Rattle.token.proofs.Undoing.{extends-refl, extends-trans}
+use Rattle.line.proofs.States.{ready-where-it-stands, rows-counted, performs-from-earlier, stop-performs, goes-on-when-given, ends-when-not-given, values-go-on}
 
 -- ---- a step uses only the values that its op names
 
@@ -132,7 +133,7 @@ running-begins twenty = record {
   keys-kept = refl;
   guards-kept = refl;
   twenty = twenty;
-  reached = λ σ ss vs G. record { σ = σ; ss = ss; vs = vs; given = G; extends = extends-itself σ; same = refl };
+  reached = λ σ ss vs G. record { σ = σ; ss = ss; vs = vs; given = G; extends = extends-refl σ; same = refl };
 }
 
 module _ {rows₀ keys₀ guards₀ part : List ℕ} {count params : ℕ} {values₀ : List ℕ} {entry : Counts} {rows keys guards values : List ℕ}
@@ -218,7 +219,7 @@ module _ {rows₀ keys₀ guards₀ part : List ℕ} {count params : ℕ} {value
                 codes-are = next .rest-codes;
                 named = subst (λ n. T (namesMade n (next .rest))) (sym one-more) (next .rest-named);
               };
-              extends = extends-further (t .reached .extends) (went .extends);
+              extends = extends-trans (t .reached .extends) (went .extends);
               same = t .whole ∙ ap (λ u. andThen u (λ v σ′. runSteps (roomOf rows₀ keys₀) (next .rest) (vs ++ v ∷ []) σ′)) (went .is);
             };
       }

@@ -1,3 +1,4 @@
+-- The laws that the functions' proofs cite.
 pub mod Marks
 pub mod Settling
 pub mod Hand

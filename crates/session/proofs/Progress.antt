@@ -25,7 +25,7 @@ use Rattle.values.proofs.Index.{index-at-most-length, index-kept-by-append, ind
 use Rattle.values.proofs.Held.{zeros-hold-nothing}
 use Rattle.values.proofs.Padded.{set-next}
 use Rattle.values.proofs.Present.{present-means-below, row-kept, present-kept}
-use Rattle.token.specs.Carried.{roomOf, countsOf, FewAtoms, Carries, Ready, Performs}
+use Rattle.token.specs.Carried.{roomOf, countsOf, FewAtoms, Carries, Performs}
 use Rattle.line.specs.Lined.{Rowed, finishedAt, Finishing, LineGiven, LineReady}
 use Rattle.line.specs.Stages.{HasOperands}
 use Rattle.session.specs.Sessioned.{SessionGiven, GuardsBelow, breachedBy, outcomeNumber, earliestOf, SettledIs, FinishReady, FinishedIs, RanIs}
@@ -33,6 +33,7 @@ use Rattle.token.specs.declared.Counts.{Counts}
 use Rattle.token.specs.declared.Outcome.{Outcome as CodeOutcome}
 use Rattle.session.specs.declared.Settled.{Settled}
 use Rattle.session.specs.declared.Settled.the-variants as done
+use Rattle.token.proofs.Chaining.{ready-again}
 use Rattle.session.proofs.Hand.{Hand, hand-grown, hand-after, breach-is}
 
 -- ---- the first breached line, with one line more
@@ -213,25 +214,8 @@ module _ {φ : File} {rows keys guards hand outcomes heads arguments commands st
     fs = s .finished;
     l = l;
     given = line-given;
-    ready = ready-of (s .state) c rows keys guards (at .carries) (at .few-atoms) (at .counts-are) (fixed .rows-length) (fixed .keys-length);
+    ready = ready-again (at .carries) (at .few-atoms) (at .counts-are) (omega (arith, fixed .rows-length)) (omega (arith, fixed .keys-length));
   }
-    where
-      ready-of : (σ : State) (c : Counts) (rows keys guards : List ℕ) → Carries σ rows keys guards → FewAtoms σ → c ≡ countsOf σ → length rows ≡ 4096
-          → length keys ≡ 256 → Ready c rows keys guards
-      ready-of σ c rows keys guards h few e r k =
-          let a : c .rows ≡ length (σ .world .rows) = ap (λ x. x .rows) e in
-          let b : c .keys ≡ length (σ .token .stored) = ap (λ x. x .keys) e in
-          let d : c .atoms ≡ σ .world .atoms = ap (λ x. x .atoms) e in
-          let g : c .guards ≡ length (σ .world .guarded) = ap (λ x. x .guards) e in
-          record {
-            rows-fit = omega (arith, h .rows-held .fit);
-            rows-small = omega arith;
-            keys-fit = omega (arith, h .keys-fit);
-            keys-small = omega arith;
-            few-atoms = omega arith;
-            few-guards = omega (arith, h .tidy .few-guards);
-            guards-fit = h .guards-fit;
-          }
 
   pub line-has-operands : HasOperands (getD heads i 0)
   line-has-operands =

@@ -1,3 +1,5 @@
+-- `session::earliest` meets its contract: the three ways through it are the three cases of the definition.
+-- Assumes nothing.
 use borrow.Author.Tests.{eq-eqb, ne-eqb}
 use Rattle.session.specs.Sessioned.{earliestOf}
 use Rattle.session.proofs.earliest.Statement.{statement}

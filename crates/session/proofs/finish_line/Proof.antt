@@ -1,3 +1,5 @@
+-- `session::finish_line` meets its contract: the mark is found over the hand that has this line's value already, and the line's number holds it.
+-- Assumes nothing.
 use Rattle.session.proofs.Marks.{guards-below-same}
 use borrow.Author.Needs.{needs}
 use Rattle.session.proofs.finish_line.Statement.{statement}

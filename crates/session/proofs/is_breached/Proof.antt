@@ -1,3 +1,5 @@
+-- `session::is_breached` meets its contract: its loop keeps that the guards before i are no breach, for all values that the rows may hold.
+-- Assumes nothing.
 use Prim.Native.Nat.{_-_, _≤_}
 use mathlib.Core.Path.{_≡_, refl, sym, _∙_}
 use mathlib.Core.List.{List}

@@ -1,3 +1,5 @@
+-- `session::outcome_number` meets its contract: the parts of the number are those of the definition.
+-- Assumes nothing.
 use Rattle.session.specs.Sessioned.{outcomeNumber}
 use borrow.Author.Needs.{needs}
 use Rattle.session.proofs.outcome_number.Statement.{statement}

@@ -1,3 +1,5 @@
+-- `session::put_in_hand` meets its contract: a row of the table is marked, and 65535 is none.
+-- Assumes nothing.
 use borrow.Author.Tests.{lt-ltb, le-ltb}
 use borrow.Author.Needs.{needs}
 use Rattle.session.proofs.put_in_hand.Statement.{statement}

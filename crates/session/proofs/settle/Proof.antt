@@ -1,3 +1,5 @@
+-- `session::settle` meets its contract: a value keeps the state after the line; a stop or an ending undoes the line.
+-- Assumes nothing.
 use mathlib.Core.Path.{sym, _∙_}
 use Rattle.token.specs.Carried.{stateOf}
 use Rattle.session.proofs.Settling.{gave-is, stopped-is, full-is, later-is, undo-ready, undone-settled, ended-settled}
