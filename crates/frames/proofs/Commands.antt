@@ -82,6 +82,10 @@ module _ (f : List ℕ) (kind : byteAt f 0 ≡ 2) (b : Bool) (is-b : b ≡ headF
     steps-are : take (r .count) (r .steps) ≡ stepsOf (drop 3 f)
     steps-are = rw (filled-are, ← count-is) (filled-first 16 noStep (stepsOf (drop 3 f)))
 
+    codes-are : map stepCode (r .steps) ≡ padded 16 (map stepCode (stepsOf (drop 3 f)))
+    unfolding padded filled stepCode
+    codes-are = ap (map stepCode) filled-are ∙ filled-map stepCode 16 noStep (stepsOf (drop 3 f))
+
     pub some-step : 1 ≤ r .count
     some-step = omega (arith, is-r .count-is, tells .some-step)
 
@@ -102,23 +106,19 @@ module _ (f : List ℕ) (kind : byteAt f 0 ≡ 2) (b : Bool) (is-b : b ≡ headF
       command-refused some k s m h a c counted held =
           refused x (in-place f (is-command f kind) counted refl ∙ refusal-is (c .file) (counted .commands-are)) some held
 
-      module _ (none : x ≡ 0) where
-        codes-are : map stepCode (r .steps) ≡ padded 16 (map stepCode (stepsOf (drop 3 f)))
-        unfolding padded filled stepCode
-        codes-are = ap (map stepCode) filled-are ∙ filled-map stepCode 16 noStep (stepsOf (drop 3 f))
-
-        pub command-taken : (k s k′ s′ : List ℕ) → CommandStored r n k s k′ s′ → (m : ℕ) (h a : List ℕ) → Takes 1 n m f turn.Command h a k s h a k′ s′
-        unfolding turnOf commandCode
-        command-taken k s k′ s′ stored m h a c counted held =
-            let room = room-left p q n 32 x is-x none in
-            let few : length (stepsOf (drop 3 f)) ≤ 16 = omega (arith, count-is, few-steps) in
-            let code : r .params + 256 * r .count ≡ commandCode (commandOf f) = rw (is-r .params-are, count-is) in
-            taken f (is-command f kind) (in-place f (is-command f kind) counted refl ∙ refusal-is (c .file) (counted .commands-are) ∙ none) refl
-            (record {
-              heads-are = held .heads-are;
-              arguments-are = held .arguments-are;
-              commands-are = stored .entry
-                  ∙ entry-written commandCode 32 n (c .file .commands) (commandOf f) k (r .params + 256 * r .count) (held .commands-are) (counted .commands-are) room code;
-              steps-are = stored .places
-                  ∙ steps-written (c .file .commands) (counted .few-steps) (commandOf f) n s (map stepCode (r .steps)) (held .steps-are) (counted .commands-are) room codes-are few;
-            })
+      pub command-taken : x ≡ 0 → (k s k′ s′ : List ℕ) → CommandStored r n k s k′ s′ → (m : ℕ) (h a : List ℕ)
+          → Takes 1 n m f turn.Command h a k s h a k′ s′
+      unfolding turnOf commandCode
+      command-taken none k s k′ s′ stored m h a c counted held =
+          let cs = c .file .commands in
+          let count = counted .commands-are in
+          let room = room-left p q n 32 x is-x none in
+          let few : length (stepsOf (drop 3 f)) ≤ 16 = omega (arith, count-is, few-steps) in
+          let code : r .params + 256 * r .count ≡ commandCode (commandOf f) = rw (is-r .params-are, count-is) in
+          taken f (is-command f kind) (in-place f (is-command f kind) counted refl ∙ refusal-is (c .file) count ∙ none) refl
+          (record {
+            heads-are = held .heads-are;
+            arguments-are = held .arguments-are;
+            commands-are = stored .entry ∙ entry-written commandCode 32 n cs (commandOf f) k _ (held .commands-are) count room code;
+            steps-are = stored .places ∙ steps-written cs (counted .few-steps) (commandOf f) n s _ (held .steps-are) count room codes-are few;
+          })

@@ -53,7 +53,8 @@ pub cut-means-same : (c : Reading) (g : List ℕ) (k : ℕ) → 68 ≤ k → fra
 cut-means-same c g k h =
     elim (decLt k (length g)) [
       | yes longer ↦ (let first : byteAt (take k g) 0 ≡ byteAt g 0 = getD-take k g 0 0 (omega arith) in
-          rw (first, body-too-long (take k g) (omega (arith, length-take-le k g (omega arith))) (c .file) (kindOf g), body-too-long g (omega arith) (c .file) (kindOf g)))
+          let long : 68 ≤ length (take k g) = omega (arith, length-take-le k g (omega arith)) in
+          rw (first, body-too-long (take k g) long (c .file) (kindOf g), body-too-long g (omega arith) (c .file) (kindOf g)))
       | no whole ↦ rw (take-all k g (omega arith))
     ]
 

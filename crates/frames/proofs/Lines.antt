@@ -8,14 +8,14 @@ use native.Mathlib.Decide.{decLt}
 use native.Mathlib.Omega.{arith}
 use lib.Dec.{eqb, ltb, leb, eqb·suc-zero}
 use lib.ListN.{length, getD, drop, set, List·getD-eq-default}
-use borrow.Author.Tests.{eq-eqb, ne-eqb, le-ltb, lt-leb, le-leb, leb-true, eqb-true, not-true, not-false}
+use borrow.Author.Tests.{eq-eqb, ne-eqb, lt-ltb, le-ltb, lt-leb, le-leb, leb-true, eqb-true, not-true, not-false}
 use Rattle.model.specs.Basics.{_else_then_, every}
 use Rattle.model.specs.Step.{Command}
 use Rattle.model.specs.Token.{commandAt}
 use Rattle.model.specs.Session.{Arg}
-use Rattle.model.specs.Frame.{File, byteAt, argsOf, argNames, lineBy, lineOf, lineFormed, lineNames, lineKind, bodyRefusal}
-use Rattle.model.specs.Tables.{padded, commandCode, headCode, argsCode, argsOfLine}
-use Rattle.frames.specs.Turn.{turnOf}
+use Rattle.model.specs.Frame.{Reading, byteAt, argsOf, argNames, lineBy, lineOf, lineFormed, lineNames, lineKind, bodyRefusal}
+use Rattle.model.specs.Tables.{Held, padded, commandCode, headCode, argsCode, argsOfLine}
+use Rattle.frames.specs.Turn.{turnOf, Counted}
 use Rattle.frames.specs.Parts.{lineNamed, LineStored, Takes}
 use Rattle.frames.specs.declared.Turn.the-variants as turn
 use Rattle.frames.proofs.Lists.{and-false, both}
@@ -83,6 +83,12 @@ line-few f b is good = line-tells f b is good .few
 
 -- ---- what a line names
 
+pub command-there : (number n params x p : ℕ) → number < n → p ≡ params → eqb p x ≡ (ltb number n && eqb params x)
+command-there number n params x p there is = rw (lt-ltb number n there, is)
+
+pub command-missing : (number n params x : ℕ) → n ≤ number → false ≡ (ltb number n && eqb params x)
+command-missing number n params x past = rw (le-ltb number n past)
+
 module _ (f : List ℕ) (n m : ℕ) (commands : List ℕ) where
   module _ (called : byteAt f 1 ≡ 0) (b : Bool) (decides : b ≡ (ltb (byteAt f 2) n && eqb (byteAt f 3) (getD commands (byteAt f 2) 0 % 256))) where
     pub no-command : not b ≡ true → false ≡ lineNamed f n m commands
@@ -99,7 +105,8 @@ module _ (f : List ℕ) (n m : ℕ) (commands : List ℕ) where
 
 -- the table's answer is the model's
 module _ (cs : List Command) (commands : List ℕ) (held : commands ≡ padded 32 (map commandCode cs)) (few : (i : ℕ) → commandAt cs i .params ≤ 4) where
-  called : (number count : ℕ) → (ltb number (length cs) && eqb count (getD commands number 0 % 256)) ≡ (ltb number (length cs) && eqb count (commandAt cs number .params))
+  called : (number count : ℕ) → (ltb number (length cs) && eqb count (getD commands number 0 % 256))
+      ≡ (ltb number (length cs) && eqb count (commandAt cs number .params))
   called number count =
       elim (decLt number (length cs)) [
         | yes there ↦ rw (params-there cs number commands few held there)
@@ -114,12 +121,15 @@ module _ (cs : List Command) (commands : List ℕ) (held : commands ≡ padded 3
   named-by (suc (suc kind)) number m args = rw (eqb·suc-zero (suc kind))
 
 -- the head's code is the model's
+no-number : (number count : ℕ) → (eqb number 0 && eqb count 2) ≡ true → number ≡ 0
+no-number number count computed = eqb-true number 0 (both (eqb number 0) (eqb count 2) computed .0)
+
 head-by : (kind number : ℕ) (args : List Arg) → kind ≤ 2 → cond (eqb kind 0) true (eqb number 0 && eqb (length args) 2) ≡ true
     → kind + 256 * number + 65536 * length args ≡ headCode (lineBy kind number args)
 unfolding headCode
 head-by zero number args known computed = omega arith
-head-by (suc zero) number args known computed = let none : number ≡ 0 = eqb-true number 0 (both (eqb number 0) (eqb (length args) 2) computed .0) in omega arith
-head-by (suc (suc zero)) number args known computed = let none : number ≡ 0 = eqb-true number 0 (both (eqb number 0) (eqb (length args) 2) computed .0) in omega arith
+head-by (suc zero) number args known computed = omega (arith, no-number number (length args) computed)
+head-by (suc (suc zero)) number args known computed = omega (arith, no-number number (length args) computed)
 head-by (suc (suc (suc kind))) number args known computed = absurd (omega arith)
 
 arguments-by : (kind number : ℕ) (args : List Arg) → argsOfLine (lineBy kind number args) ≡ args
@@ -135,9 +145,10 @@ line-stored f m u v w x h a is-u is-v is-w is-x = record { head = rw (is-u, is-v
 
 -- ---- the refusals
 module _ (f : List ℕ) (kind : byteAt f 0 ≡ 3) (b : Bool) (is-b : b ≡ lineFormed f) where
-  pub line-unformed : not b ≡ true → (n m : ℕ) (h a k : List ℕ) (place : ℕ) (s : List ℕ) → 1 ≤ place → Takes place n m f (turn.Refused 4) h a k s h a k s
-  line-unformed h n m h′ a k place s here c counted held =
-      let e : lineFormed f ≡ false = sym is-b ∙ not-true b h in
+  pub line-unformed : not b ≡ true → (n m : ℕ) (h a k : List ℕ) (place : ℕ) (s : List ℕ) → 1 ≤ place
+      → Takes place n m f (turn.Refused 4) h a k s h a k s
+  line-unformed unformed n m h a k place s here c counted held =
+      let e : lineFormed f ≡ false = sym is-b ∙ not-true b unformed in
       refused 4 (in-place f (is-line f kind) counted (le-leb 1 place here) ∙ rw e) (λ q. omega arith) held
 
   module _ (good : not b ≡ false) (n m : ℕ) (k : List ℕ) (q : Bool) (is-q : q ≡ lineNamed f n m k) (x : ℕ)
@@ -148,38 +159,36 @@ module _ (f : List ℕ) (kind : byteAt f 0 ≡ 3) (b : Bool) (is-b : b ≡ lineF
     count : length (argsOf (drop 4 f)) ≡ byteAt f 3
     count = arguments-count f (byteAt f 3) (tells .whole)
 
-    module _ (φ : File) (commands-are : n ≡ length (φ .commands)) (lines-are : m ≡ length (φ .lines)) (held : k ≡ padded 32 (map commandCode (φ .commands)))
-        (few : (i : ℕ) → commandAt (φ .commands) i .params ≤ 4) where
-      refusal-is : bodyRefusal φ lineKind f ≡ x
-      unfolding lineNamed
-      refusal-is =
-          let e : lineFormed f ≡ true = sym is-b ∙ not-false b good in
-          let same : q ≡ lineNames (φ .commands) m (lineOf f) = is-q ∙ rw (commands-are, ← count) (named-by (φ .commands) k held few (byteAt f 1) (byteAt f 2) m (argsOf (drop 4 f))) in
-          rw (e, ← lines-are, is-x, same)
+    refusal-is : {c : Reading} {place : ℕ} {h a s : List ℕ} → Counted c place n m → Held (c .file) h a k s → bodyRefusal (c .file) lineKind f ≡ x
+    unfolding lineNamed
+    refusal-is {c} counted held =
+        let cs = c .file .commands in
+        let e : lineFormed f ≡ true = sym is-b ∙ not-false b good in
+        let same : q ≡ lineNames cs m (lineOf f) =
+        is-q
+        ∙ rw (counted .commands-are, ← count)
+        (named-by cs k (held .commands-are) (counted .few-params) (byteAt f 1) (byteAt f 2) m (argsOf (drop 4 f))) in
+        rw (e, ← (counted .lines-are), is-x, same)
 
     pub line-refused : (x ≡ 0 → ⊥) → (h a : List ℕ) (place : ℕ) (s : List ℕ) → 1 ≤ place → Takes place n m f (turn.Refused x) h a k s h a k s
     line-refused some h a place s here c counted held =
-        refused x
-        (in-place f (is-line f kind) counted (le-leb 1 place here)
-        ∙ refusal-is (c .file) (counted .commands-are) (counted .lines-are) (held .commands-are) (counted .few-params))
-        some held
+        refused x (in-place f (is-line f kind) counted (le-leb 1 place here) ∙ refusal-is counted held) some held
 
-    pub line-taken : x ≡ 0 → (h a h′ a′ : List ℕ) → LineStored f m h a h′ a′ → (place : ℕ) (s : List ℕ) → 1 ≤ place → Takes place n m f turn.Line h a k s h′ a′ k s
+    pub line-taken : x ≡ 0 → (h a h′ a′ : List ℕ) → LineStored f m h a h′ a′ → (place : ℕ) (s : List ℕ) → 1 ≤ place
+        → Takes place n m f turn.Line h a k s h′ a′ k s
     unfolding turnOf
     line-taken none h a h′ a′ stored place s here c counted held =
+        let args = argsOf (drop 4 f) in
+        let ls = c .file .lines in
         let room = room-left true q m 1024 x is-x none in
         let head : byteAt f 1 + 256 * byteAt f 2 + 65536 * byteAt f 3 ≡ headCode (lineOf f) =
-        rw (← count) (head-by (byteAt f 1) (byteAt f 2) (argsOf (drop 4 f)) (tells .kind) (rw count (tells .computed))) in
-        let code : argsCode (argsOf (drop 4 f)) ≡ argsCode (argsOfLine (lineOf f)) = ap argsCode (sym (arguments-by (byteAt f 1) (byteAt f 2) (argsOf (drop 4 f)))) in
-        taken f (is-line f kind)
-        (in-place f (is-line f kind) counted (le-leb 1 place here)
-        ∙ refusal-is (c .file) (counted .commands-are) (counted .lines-are) (held .commands-are) (counted .few-params)
-        ∙ none)
-        refl
+        rw (← count) (head-by (byteAt f 1) (byteAt f 2) args (tells .kind) (rw count (tells .computed))) in
+        let code : argsCode args ≡ argsCode (argsOfLine (lineOf f)) = ap argsCode (sym (arguments-by (byteAt f 1) (byteAt f 2) args)) in
+        taken f (is-line f kind) (in-place f (is-line f kind) counted (le-leb 1 place here) ∙ refusal-is counted held ∙ none) refl
         (record {
-          heads-are = stored .head ∙ entry-written headCode 1024 m (c .file .lines) (lineOf f) h _ (held .heads-are) (counted .lines-are) room head;
+          heads-are = stored .head ∙ entry-written headCode 1024 m ls (lineOf f) h _ (held .heads-are) (counted .lines-are) room head;
           arguments-are = stored .arguments
-              ∙ entry-written (λ l. argsCode (argsOfLine l)) 1024 m (c .file .lines) (lineOf f) a _ (held .arguments-are) (counted .lines-are) room code;
+              ∙ entry-written (λ l. argsCode (argsOfLine l)) 1024 m ls (lineOf f) a _ (held .arguments-are) (counted .lines-are) room code;
           commands-are = held .commands-are;
           steps-are = held .steps-are;
         })

@@ -5,7 +5,7 @@ use mathlib.Core.Bool.{_&&_}
 use mathlib.Core.List.{List, [], _∷_, _++_}
 use Prim.Native.Nat.{ℕ, zero, suc, _+_, _≤_, _<_}
 use native.Mathlib.Omega.{arith}
-use lib.Dec.{ltb, ltb→lt}
+use lib.Dec.{ltb}
 use lib.ListN.{length, getD, drop, length-append, length-drop}
 use Rattle.model.specs.Basics.{_else_then_, every}
 use Rattle.model.specs.Step.{Command}
@@ -16,6 +16,7 @@ use Rattle.model.proofs.Tests.{met}
 use Rattle.frames.specs.Turn.{Counted}
 use Rattle.frames.specs.Parts.{headFormed}
 use Rattle.frames.proofs.Lists.{is-true, both}
+use Rattle.frames.proofs.Turns.{room-left}
 use Rattle.frames.proofs.Steps.{steps-count}
 use Rattle.frames.proofs.Commands.{HeadTells, formed-head}
 
@@ -34,23 +35,22 @@ not-refused : (c : Reading) (f : List ℕ) (kind : Kind) → kindOf f ≡ kind �
 not-refused c f kind is none = rw is at (met (inPlace (c .place) (kindOf f)) 2 (bodyRefusal (c .file) (kindOf f) f) none .1)
 
 module _ (φ : File) (f : List ℕ) where
-  command-head : bodyRefusal φ commandKind f ≡ 0 → HeadTells f
-  unfolding headFormed
-  command-head none =
-      let formed = is-true (commandFormed f) (met (commandFormed f) 3 (ltb (length (φ .commands)) 32 else 5 then namesMade (byteAt f 1) (commandOf f .steps) else 6 then 0) none .0) in
-      let steps = both (headFormed f && every stepFormed (stepsOf (drop 3 f))) (returnsLast (stepsOf (drop 3 f))) formed in
-      formed-head f (both (headFormed f) (every stepFormed (stepsOf (drop 3 f))) (steps .0) .0)
-
   command-room : bodyRefusal φ commandKind f ≡ 0 → length (φ .commands) < 32
   command-room none =
-      let rest = met (commandFormed f) 3 (ltb (length (φ .commands)) 32 else 5 then namesMade (byteAt f 1) (commandOf f .steps) else 6 then 0) none .1 in
-      ltb→lt (length (φ .commands)) 32 (met (ltb (length (φ .commands)) 32) 4 (namesMade (byteAt f 1) (commandOf f .steps) else 6 then 0) rest .0)
+      room-left (commandFormed f) (namesMade (byteAt f 1) (commandOf f .steps)) (length (φ .commands)) 32 (bodyRefusal φ commandKind f) refl none
 
   line-room : bodyRefusal φ lineKind f ≡ 0 → length (φ .lines) < 1024
   line-room none =
-      let named = lineNames (φ .commands) (length (φ .lines)) (lineOf f) else 6 then 0 in
-      let rest = met (lineFormed f) 3 (ltb (length (φ .lines)) 1024 else 5 then named) none .1 in
-      ltb→lt (length (φ .lines)) 1024 (met (ltb (length (φ .lines)) 1024) 4 named rest .0)
+      let named = lineNames (φ .commands) (length (φ .lines)) (lineOf f) in
+      room-left (lineFormed f) named (length (φ .lines)) 1024 (bodyRefusal φ lineKind f) refl none
+
+  command-head : bodyRefusal φ commandKind f ≡ 0 → HeadTells f
+  unfolding headFormed
+  command-head none =
+      let rest = ltb (length (φ .commands)) 32 else 5 then namesMade (byteAt f 1) (commandOf f .steps) else 6 then 0 in
+      let formed = is-true (commandFormed f) (met (commandFormed f) 3 rest none .0) in
+      let steps = both (headFormed f && every stepFormed (stepsOf (drop 3 f))) (returnsLast (stepsOf (drop 3 f))) formed in
+      formed-head f (both (headFormed f) (every stepFormed (stepsOf (drop 3 f))) (steps .0) .0)
 
 -- ---- the counts after it
 
@@ -80,15 +80,17 @@ module _ {c : Reading} {place n m : ℕ} (counted : Counted c place n m) (f : Li
       let none = not-refused c f commandKind is taken in
       let head = command-head (c .file) f none in
       let room = command-room (c .file) f none in
+      let steps = steps-count (drop 3 f) (byteAt f 2) (omega (arith, length-drop 3 f, head .whole)) in
+      let few : length (stepsOf (drop 3 f)) ≤ 16 = omega (arith, head .few-steps) in
       let cs = c .file .commands in
-      let few : length (stepsOf (drop 3 f)) ≤ 16 = omega (arith, steps-count (drop 3 f) (byteAt f 2) (omega (arith, length-drop 3 f, head .whole)), head .few-steps) in (
+      let no : Command = record { params = 0; steps = [] } in (
         after commandKind is 1 (n + 1) m
             (record {
               place-is = refl;
               commands-are = omega (arith, counted .commands-are, length-append cs (commandOf f ∷ []));
               lines-are = counted .lines-are;
-              few-params = at-more (λ (d : Command). d .params ≤ 4) (record { params = 0; steps = [] }) cs (commandOf f) (counted .few-params) (head .few-params);
-              few-steps = at-more (λ (d : Command). length (d .steps) ≤ 16) (record { params = 0; steps = [] }) cs (commandOf f) (counted .few-steps) few;
+              few-params = at-more (λ (d : Command). d .params ≤ 4) no cs (commandOf f) (counted .few-params) (head .few-params);
+              few-steps = at-more (λ (d : Command). length (d .steps) ≤ 16) no cs (commandOf f) (counted .few-steps) few;
             }),
         omega (arith, counted .commands-are),
       )

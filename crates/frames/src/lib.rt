@@ -3,7 +3,7 @@ ghost use mathlib.Core.Path.{_≡_};
 ghost use mathlib.Core.Bool.{_&&_};
 ghost use mathlib.Core.List.{List, map};
 ghost use Prim.Native.Nat.{ℕ, _+_, _*_, _%_, _≤_, _<_};
-ghost use lib.Dec.{leb, ltb, eqb};
+ghost use lib.Dec.{ltb, eqb};
 ghost use lib.ListN.{length, take, drop, getD};
 ghost use Rattle.model.specs.Basics.{_else_then_, every};
 ghost use Rattle.model.specs.Types.{Un};
@@ -68,7 +68,7 @@ fn lowest(formed: bool, room: bool, named: bool) -> usize
         }
         return 5;
     }
-    4
+    return 4;
 }
 
 // No template of the set has A, which weighs 2, without S, which weighs 1.

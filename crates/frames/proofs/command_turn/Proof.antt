@@ -29,7 +29,9 @@ shared-slice-read-decode-2 : tie.Need-shared-slice-read-decode-2
 shared-slice-read-decode-2 c = omega (arith, head-tells _ _ (c .before .before .before .before .head-formed .ensures) (c .before .before .before .if1 .left))
 
 decode-requires : tie.Need-decode-requires
-decode-requires c κs = (rw rest-length (omega (arith, head-tells _ _ (c .before .before .before .before .head-formed .ensures) (c .before .before .before .if1 .left))), omega (arith, head-tells _ _ (c .before .before .before .before .head-formed .ensures) (c .before .before .before .if1 .left)))
+decode-requires c κs =
+    let told = head-tells _ _ (c .before .before .before .before .head-formed .ensures) (c .before .before .before .if1 .left) in
+    (rw rest-length (omega arith), omega arith)
 
 steps-formed-requires : tie.Need-steps-formed-requires
 steps-formed-requires c κs = search (needs, some-step, few-steps)
@@ -41,10 +43,23 @@ lowest-requires : tie.Need-lowest-requires
 lowest-requires c κs = search needs
 
 returns-2 : tie.Need-returns-2
-returns-2 c = command-refused _ (search needs) _ (c .before .before .before .before .before .before .before .before .before .head-formed .ensures) (c .before .before .before .before .before .before .before .before .if1 .left) _ (c .before .before .before .before .decode .ensures) _ _ (c .before .before .before .steps-formed .ensures) (c .before .before .names-made .ensures) _ _ (c .before .lowest .ensures) (c .if2 .taken) _ _
+returns-2 c =
+    let low = c .before in
+    let formed = low .before .before .steps-formed in
+    let named = low .before .names-made in
+    let made = low .before .before .before in
+    let head = made .before .before .before .before in
+    let v = head .before .before .before .before .before .args in
+    command-refused _ (search needs) _ (head .before .head-formed .ensures) (head .if1 .left) _ (made .decode .ensures)
+    (formed .result) (named .result) (formed .ensures) (named .ensures) (v .n) _ (low .lowest .ensures) (c .if2 .taken) _ _
 
 store-command-requires : tie.Need-store-command-requires
-store-command-requires c κs = (room-left (c .before .before .before .before .before .steps-formed .result) (c .before .before .before .before .names-made .result) _ _ _ (c .before .before .before .lowest .ensures) (c .before .before .if2 .left), search needs, search needs)
+store-command-requires c κs = (
+  room-left (c .before .before .before .before .before .steps-formed .result) (c .before .before .before .before .names-made .result)
+      _ _ _ (c .before .before .before .lowest .ensures) (c .before .before .if2 .left),
+  search needs,
+  search needs,
+)
 
 same-length : tie.Need-same-length
 same-length c = search needs
@@ -53,7 +68,7 @@ same-length-2 : tie.Need-same-length-2
 same-length-2 c = search needs
 
 returns-3 : tie.Need-returns-3
-returns-3 c = command-taken _ (search needs) _ (c .before .before .before .before .before .before .before .before .before .before .before .before .before .before .before .before .head-formed .ensures) (c .before .before .before .before .before .before .before .before .before .before .before .before .before .before .before .if1 .left) _ (c .before .before .before .before .before .before .before .before .before .before .before .decode .ensures) _ _ (c .before .before .before .before .before .before .before .before .before .before .steps-formed .ensures) (c .before .before .before .before .before .before .before .before .before .names-made .ensures) _ _ (c .before .before .before .before .before .before .before .before .lowest .ensures) (c .before .before .before .before .before .before .before .if2 .left) _ _ _ _ (c .before .before .before .before .store-command .ensures)
+returns-3 c = search (needs, command-taken)
 
 pub command-turn-spec : {M : Type 1} → statement M
 command-turn-spec =

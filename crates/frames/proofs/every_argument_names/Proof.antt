@@ -29,7 +29,10 @@ argument-names-requires : tie.Need-argument-names-requires Inv-loop μ-loop
 argument-names-requires c κs = search needs
 
 returns : tie.Need-returns Inv-loop μ-loop
-returns c = naming-fails (c .before .before .before .before .loop .inv) (search needs) (c .before .before .argument .ensures) _ (c .before .argument-names .ensures) (c .if1 .taken)
+returns c =
+    let named = c .before in
+    let read = named .before in
+    naming-fails (read .before .before .loop .inv) (search needs) (read .argument .ensures) _ (named .argument-names .ensures) (c .if1 .taken)
 
 add-i : tie.Need-add-i Inv-loop μ-loop
 add-i c = search needs
@@ -38,7 +41,10 @@ loop-less : tie.Need-loop-less Inv-loop μ-loop
 loop-less c = search needs
 
 loop-again : tie.Need-loop-again Inv-loop μ-loop
-loop-again c = naming-turn (c .before .before .before .before .loop .inv) (search needs) (c .before .before .argument .ensures) _ (c .before .argument-names .ensures) (c .if1 .left)
+loop-again c =
+    let named = c .before in
+    let read = named .before in
+    naming-turn (read .before .before .loop .inv) (search needs) (read .argument .ensures) _ (named .argument-names .ensures) (c .if1 .left)
 
 returns-2 : tie.Need-returns-2 Inv-loop μ-loop
 returns-2 c = naming-done (c .before .loop .inv) (c .loop-test .left)

@@ -2,9 +2,8 @@
 -- Assumes nothing.
 use Rattle.frames.proofs.has_command.Statement.{statement}
 use Rattle.frames.proofs.has_command.Tie as tie
-use borrow.Author.Tests.{lt-ltb, le-ltb}
-use native.Mathlib.Omega.{arith}
 use borrow.Author.Needs.{needs}
+use Rattle.frames.proofs.Lines.{command-there, command-missing}
 
 wide-requires : tie.Need-wide-requires
 wide-requires c κs = search needs
@@ -16,10 +15,12 @@ shared-slice-read-result : tie.Need-shared-slice-read-result
 shared-slice-read-result c = search needs
 
 returns : tie.Need-returns
-returns c = rw (c .before .wide .ensures .0, lt-ltb (c .before .before .before .before .args .number) (c .before .before .before .before .args .n) (omega arith))
+returns c =
+    let v = c .before .before .before .before .args in
+    command-there (v .number) (v .n) (v .params) _ _ (search needs) (c .before .wide .ensures .0)
 
 returns-2 : tie.Need-returns-2
-returns-2 c = rw (le-ltb (c .before .before .args .number) (c .before .before .args .n) (omega arith))
+returns-2 c = search (needs, command-missing)
 
 pub has-command-spec : {M : Type 1} → statement M
 has-command-spec =

@@ -30,7 +30,9 @@ loop-less : tie.Need-loop-less Inv-loop μ-loop
 loop-less c = search needs
 
 loop-again : tie.Need-loop-again Inv-loop μ-loop
-loop-again c = ⊎-elim (λ w. past-barred (c .before .before .loop .inv) (search needs) (w .1 .left)) (λ w. past-other (c .before .before .loop .inv) (search needs) (w .left)) (c .if1 .came)
+loop-again c =
+    let v = c .before .before .loop .inv in
+    ⊎-elim (λ w. past-barred v (search needs) (w .1 .left)) (λ w. past-other v (search needs) (w .left)) (c .if1 .came)
 
 returns-2 : tie.Need-returns-2 Inv-loop μ-loop
 returns-2 c = lawful-done (c .before .loop .inv) (c .loop-test .left)

@@ -20,10 +20,20 @@ lowest-requires : tie.Need-lowest-requires
 lowest-requires c κs = search needs
 
 returns-2 : tie.Need-returns-2
-returns-2 c = line-refused _ (search needs) _ (c .before .before .before .before .line-formed .ensures) (c .before .before .before .if1 .left) _ _ _ _ (c .before .before .line-names .ensures) _ (c .before .lowest .ensures) (c .if2 .taken) _ _
+returns-2 c =
+    let low = c .before in
+    let head = low .before .before in
+    line-refused _ (search needs) _ (head .before .line-formed .ensures) (head .if1 .left) _ _ _ _
+    (low .before .line-names .ensures) _ (low .lowest .ensures) (c .if2 .taken) _ _
 
 store-line-requires : tie.Need-store-line-requires
-store-line-requires c κs = (search (needs, line-whole), search (needs, line-few), room-left true (c .before .before .before .before .line-names .result) _ _ _ (c .before .before .before .lowest .ensures) (c .before .before .if2 .left), search needs, search needs)
+store-line-requires c κs = (
+  search (needs, line-whole),
+  search (needs, line-few),
+  room-left true (c .before .before .before .before .line-names .result) _ _ _ (c .before .before .before .lowest .ensures) (c .before .before .if2 .left),
+  search needs,
+  search needs,
+)
 
 same-length : tie.Need-same-length
 same-length c = search needs
@@ -32,7 +42,7 @@ same-length-2 : tie.Need-same-length-2
 same-length-2 c = search needs
 
 returns-3 : tie.Need-returns-3
-returns-3 c = line-taken _ (search needs) _ (c .before .before .before .before .before .before .before .before .before .before .before .line-formed .ensures) (c .before .before .before .before .before .before .before .before .before .before .if1 .left) _ _ _ _ (c .before .before .before .before .before .before .before .before .before .line-names .ensures) _ (c .before .before .before .before .before .before .before .before .lowest .ensures) (c .before .before .before .before .before .before .before .if2 .left) _ _ _ _ (c .before .before .before .before .store-line .ensures)
+returns-3 c = search (needs, line-taken)
 
 pub line-turn-spec : {M : Type 1} → statement M
 line-turn-spec =

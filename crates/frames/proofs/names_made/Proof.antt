@@ -46,7 +46,9 @@ loop-less : tie.Need-loop-less Inv-loop μ-loop
 loop-less c = search needs
 
 loop-again : tie.Need-loop-again Inv-loop μ-loop
-loop-again c = (search needs, names-turn _ (c .before .before .before .before .loop .inv .1) (search needs) _ (c .before .step-names .ensures) (c .if1 .left))
+loop-again c =
+    let named = c .before in
+    (search needs, names-turn _ (named .before .before .before .loop .inv .1) (search needs) _ (named .step-names .ensures) (c .if1 .left))
 
 returns-2 : tie.Need-returns-2 Inv-loop μ-loop
 returns-2 c = names-done _ (c .before .loop .inv .1) (c .loop-test .left)

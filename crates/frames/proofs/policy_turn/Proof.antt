@@ -30,10 +30,12 @@ is-lawful-requires : tie.Need-is-lawful-requires
 is-lawful-requires c κs = search needs
 
 returns-3 : tie.Need-returns-3
-returns-3 c = policy-unlawful _ (search needs) (search needs) (search needs) _ (c .before .before .number .ensures) _ (c .before .is-lawful .ensures) (c .if3 .taken)
+returns-3 c =
+    let lawful = c .before in
+    policy-unlawful _ (search needs) (search needs) (search needs) _ (lawful .before .number .ensures) _ (lawful .is-lawful .ensures) (c .if3 .taken)
 
 returns-4 : tie.Need-returns-4
-returns-4 c = policy-taken _ (search needs) (search needs) (search needs) _ (c .before .before .number .ensures) _ (c .before .is-lawful .ensures) (c .if3 .left)
+returns-4 c = search (needs, policy-taken)
 
 pub policy-turn-spec : {M : Type 1} → statement M
 policy-turn-spec =

@@ -41,7 +41,9 @@ loop-less : tie.Need-loop-less Inv-loop μ-loop
 loop-less c = search needs
 
 loop-again : tie.Need-loop-again Inv-loop μ-loop
-loop-again c = (search needs, formed-turn (c .before .before .before .before .loop .inv .1) (search needs) _ (c .before .step-formed .ensures) (c .if1 .left))
+loop-again c =
+    let formed = c .before in
+    (search needs, formed-turn (formed .before .before .before .loop .inv .1) (search needs) _ (formed .step-formed .ensures) (c .if1 .left))
 
 returns-last-requires : tie.Need-returns-last-requires Inv-loop μ-loop
 returns-last-requires c κs = search needs
