@@ -24,7 +24,8 @@ use Rattle.values.proofs.Padded.{length-padded}
 use Rattle.values.proofs.Appeared.{HasRow, when-found, when-added, when-no-room, has-row-when-added}
 use Rattle.token.specs.Carried.{roomOf, Carries, Tidy, Performs}
 use Rattle.line.specs.Lined.{Finishing, Rowed, finishedAt}
-use Rattle.line.specs.Stages.{Stands, earlierFrom, appearedAs, ArgumentGiven, ArgumentReady}
+use Rattle.token.specs.Numbers.{tookOf}
+use Rattle.line.specs.Stages.{Stands, earlierFrom, ArgumentGiven, ArgumentReady}
 use Rattle.token.specs.declared.Counts.{Counts}
 use Rattle.token.specs.declared.Outcome as counted
 use Rattle.token.specs.declared.Outcome.the-variants as code
@@ -135,7 +136,7 @@ present-appears {σ} ρ S v there row-is =
 
 module _ {σ : State} {c : Counts} {rows keys guards : List ℕ} (S : Stands σ c rows keys guards) (k : ℕ) where
   pub constant-appears : {exit : List ℕ} (r : Interned) → Appeared (const k) (σ .world .rows) r rows exit
-      → Performs σ (appear (roomOf rows keys) (const k) σ) (appearedAs c r) exit keys guards
+      → Performs σ (appear (roomOf rows keys) (const k) σ) (tookOf c r) exit keys guards
   unfolding appear
   constant-appears (Found i) A =
       let was = when-found A refl in
@@ -253,7 +254,7 @@ module _ {σ : State} {fs : List Finished} {c : Counts} {rows keys guards outcom
           let few = G .finishing .few in
           (omega (arith, G .code-is), λ h. omega (arith, G .code-is, table-long (G .finishing)))
 
-  pub constant-is-taken : 0x8000 ≤ n → (r : Interned) (exit : List ℕ) {o : counted.Outcome} → o ≡ appearedAs c r
+  pub constant-is-taken : 0x8000 ≤ n → (r : Interned) (exit : List ℕ) {o : counted.Outcome} → o ≡ tookOf c r
       → ((vs : List Value) → Holds rows vs → c .rows ≡ length vs → Appeared (const (n % 0x8000)) vs r rows exit)
       → (a : Arg) → ArgumentGiven σ fs a c rows keys guards outcomes n → Performs σ (appearing (roomOf rows keys) (argument fs a) σ) o exit keys guards
   constant-is-taken high r exit e appears (constant k) G =

@@ -15,14 +15,10 @@ use Rattle.model.specs.Session.{Arg, Finished, withArguments}
 use Rattle.model.specs.Frame.{argNames, namesMade}
 use Rattle.model.specs.Tables.{argCode, argsCode, argRead}
 use Rattle.model.specs.declared.Step.{Step}
-use Rattle.values.specs.declared.Interned.{Interned}
-use Rattle.values.specs.declared.Interned.the-variants.{Found, Added, NoRoom}
 use Rattle.decoding.specs.Decoded.{stepFrom}
 use Rattle.token.specs.Carried.{roomOf, countsOf, FewAtoms, Carries, Extends, Performs}
 use Rattle.line.specs.Lined.{Finishing}
 use Rattle.token.specs.declared.Counts.{Counts}
-use Rattle.token.specs.declared.Outcome.{Outcome}
-use Rattle.token.specs.declared.Outcome.the-variants.{Gave, Full}
 use Rattle.line.specs.declared.Earlier.{Earlier}
 use Rattle.line.specs.declared.Earlier.the-variants as earlier
 use Rattle.line.specs.declared.Came.{Came}
@@ -40,13 +36,6 @@ pub record Stands (σ : State) (c : Counts) (rows keys guards : List ℕ) : Type
 -- an earlier line's outcome, from its number
 unfoldable pub earlierFrom : ℕ → Earlier
 earlierFrom code = cond (eqb (code / 4294967296 % 2) 1) earlier.Stopped (earlier.Value (code % 65536))
-
--- what becomes of a line when a value appears
-abbrev pub appearedAs : Counts → Interned → Outcome
-appearedAs c (Found i) = Gave c i
-appearedAs c (Added i) =
-    Gave (record { rows = c .rows + 1; keys = c .keys; atoms = c .atoms; guards = c .guards }) i
-appearedAs c NoRoom = Full 32 c
 
 pub record ArgumentGiven (σ : State) (fs : List Finished) (a : Arg) (c : Counts) (rows keys guards outcomes : List ℕ) (code : ℕ) : Type 0 where
   pub stands : Stands σ c rows keys guards

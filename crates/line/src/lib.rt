@@ -4,7 +4,7 @@ use model::Step;
 use token::Counts;
 use token::Outcome;
 use token::perform_step;
-use values::Interned;
+use token::took;
 ghost use mathlib.Core.Path.{_≡_};
 ghost use mathlib.Core.List.{List};
 ghost use Prim.Native.Nat.{ℕ, _≤_, _<_};
@@ -17,7 +17,7 @@ ghost use Rattle.model.specs.Session.{argument as named};
 ghost use Rattle.model.specs.declared.Step.{Step};
 ghost use Rattle.token.specs.Carried.{roomOf, Ready, Performs};
 ghost use Rattle.line.specs.Lined.{LineGiven, LineReady};
-ghost use Rattle.line.specs.Stages.{Stands, earlierFrom, appearedAs, ArgumentGiven, ArgumentReady, ArgumentsReady, TakesArguments, StepsGiven, StepsReady, operationOf, computed, HasOperands};
+ghost use Rattle.line.specs.Stages.{Stands, earlierFrom, ArgumentGiven, ArgumentReady, ArgumentsReady, TakesArguments, StepsGiven, StepsReady, operationOf, computed, HasOperands};
 
 // What an earlier line came to: its value's row, or nothing.
 enum Earlier {
@@ -34,26 +34,6 @@ fn earlier_of(code: u64) -> Earlier
     Earlier::Value((code % 65536) as usize)
 }
 
-// The outcome of a value that appears, by what became of its row.
-fn appeared(c: Counts, r: Interned) -> Outcome
-    requires { ⌜ c .rows ≤ 4096 ⌝ }
-    ensures { λ o. ⌜ o ≡ appearedAs c r ⌝ }
-{
-    match r {
-        Interned::Found(i) => Outcome::Gave(c, i),
-        Interned::Added(i) => Outcome::Gave(
-            Counts {
-                rows: c.rows + 1,
-                keys: c.keys,
-                atoms: c.atoms,
-                guards: c.guards,
-            },
-            i,
-        ),
-        Interned::NoRoom => Outcome::Full(32, c),
-    }
-}
-
 // One argument: its highest bit says that the other fifteen are a constant, and they are an earlier line's number otherwise.
 fn argument(rows: &mut [u64], outcomes: &[u64], c: Counts, code: usize) -> Outcome
     requires { ⌜ ArgumentReady c (now rows) (now outcomes) code ⌝ }
@@ -62,7 +42,7 @@ fn argument(rows: &mut [u64], outcomes: &[u64], c: Counts, code: usize) -> Outco
     if code >= 0x8000 {
         let n = c.rows;
         let r = values::appear_const(rows, n, code % 0x8000);
-        return appeared(c, r);
+        return took(c, r);
     }
     let Earlier::Value(row) = earlier_of(outcomes[code]) else {
         return Outcome::Stopped(c);

@@ -32,7 +32,7 @@ pub enum Outcome {
 }
 
 // What becomes of a value that appeared: ending 32 where there was no room for it.
-fn took(c: Counts, r: Interned) -> Outcome
+pub fn took(c: Counts, r: Interned) -> Outcome
     requires { ⌜ c .rows ≤ 4096 ⌝ }
     ensures { λ o. ⌜ o ≡ tookOf c r ⌝ }
 {

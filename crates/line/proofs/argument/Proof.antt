@@ -1,4 +1,4 @@
--- `token::line::argument` meets its contract: a constant appears, and an earlier line's number in the table tells its value's row or that it stopped.
+-- `line::argument` meets its contract: a constant appears, and an earlier line's number in the table tells its value's row or that it stopped.
 -- Assumes nothing.
 use mathlib.Core.Path.{sym, _∙_}
 use borrow.Author.Needs.{needs}
@@ -9,8 +9,8 @@ use Rattle.line.proofs.argument.Tie as tie
 appear-const-requires : tie.Need-appear-const-requires
 appear-const-requires c κs = search needs
 
-appeared-requires : tie.Need-appeared-requires
-appeared-requires c κs = search needs
+took-requires : tie.Need-took-requires
+took-requires c κs = search needs
 
 same-length : tie.Need-same-length
 same-length c = search needs
@@ -18,7 +18,7 @@ same-length c = search needs
 returns : tie.Need-returns
 returns c = λ σ fs a keys guards G.
     let appears = c .before .before .before in
-    constant-is-taken (appears .before .before .if1 .taken) (appears .appear-const .result) _ (c .appeared .ensures) (appears .appear-const .ensures) a G
+    constant-is-taken (appears .before .before .if1 .taken) (appears .appear-const .result) _ (c .took .ensures) (appears .appear-const .ensures) a G
 
 mul-earlier-of : tie.Need-mul-earlier-of
 mul-earlier-of c = search needs
@@ -50,7 +50,7 @@ argument-spec =
     tie.close
     (tie.spec
     appear-const-requires
-    appeared-requires
+    took-requires
     same-length
     returns
     mul-earlier-of

@@ -1,4 +1,4 @@
--- `token::line::compute` meets its contract: the step of the operation's name is performed, and its value ends the line.
+-- `line::compute` meets its contract: the step of the operation's name is performed, and its value ends the line.
 -- Assumes nothing.
 use mathlib.Core.Path.{_≡_}
 use mathlib.Core.Bool.{cond}

@@ -1,4 +1,4 @@
--- `token::line::earlier_of` meets its contract: the bit that says that the line stopped decides.
+-- `line::earlier_of` meets its contract: the bit that says that the line stopped decides.
 -- Assumes nothing.
 use borrow.Author.Tests.{eq-eqb, ne-eqb}
 use Rattle.line.specs.Stages.{earlierFrom}

@@ -1,4 +1,4 @@
--- `token::line::row_of` meets its contract: past the end of the array there is 0, as where a list has no element.
+-- `line::row_of` meets its contract: past the end of the array there is 0, as where a list has no element.
 -- Assumes nothing.
 use mathlib.Core.Path.{sym}
 use borrow.Author.Needs.{needs}

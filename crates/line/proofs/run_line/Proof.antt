@@ -1,4 +1,4 @@
--- `token::line::run_line` meets its contract: each way out is the answer of the whole line, from what its arguments came to.
+-- `line::run_line` meets its contract: each way out is the answer of the whole line, from what its arguments came to.
 -- Assumes nothing.
 use borrow.Author.Needs.{needs}
 use Rattle.line.proofs.Whole.{arguments-are-ready, command-is-within, part-is-within, steps-are-ready, line-runs-steps, line-ends-with-arguments, operands-are-ready, line-computes-value}

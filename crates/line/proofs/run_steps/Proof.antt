@@ -1,4 +1,4 @@
--- `token::line::run_steps` meets its contract: the loop keeps Running, and each way out is the answer of the whole.
+-- `line::run_steps` meets its contract: the loop keeps Running, and each way out is the answer of the whole.
 -- Assumes nothing.
 use Prim.Native.Nat.{_-_}
 use native.Mathlib.Omega.{arith}

@@ -1,4 +1,4 @@
--- `token::line::take_arguments` meets its contract: the loop keeps Taking, and each way out is the answer of the whole.
+-- `line::take_arguments` meets its contract: the loop keeps Taking, and each way out is the answer of the whole.
 -- Assumes nothing.
 use Prim.Native.Nat.{_-_}
 use mathlib.Core.Path.{refl}
