@@ -2,3 +2,4 @@
 pub mod Taken
 pub mod Running
 pub mod Reporting
+pub mod Meaning

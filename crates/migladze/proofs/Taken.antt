@@ -27,6 +27,9 @@ unfolding readAnswer
 refused-answer (refused i j) n k e = cc
 refused-answer (file φ) n k e = absurd (let z : _≡_ {A = ℕ} 0 1 = cc in omega arith)
 
+pub refusal-is-no-file : {n k : ℕ} (φ : File) → refused n k ≡ file φ → ⊥
+refusal-is-no-file φ e = let z : _≡_ {A = ℕ} 0 1 = cc in omega arith
+
 pub refusal-judged : (input : List ℕ) (lent left : Tables) (r : ReadAnswer) (n k : ℕ) → ReadIs input lent r left → r ≡ read.Refused n k
     → VerdictIs input lent (record { number = n; frame = k; step = 0 }) left
 refusal-judged input lent left r n k h e =
@@ -34,7 +37,7 @@ refusal-judged input lent left r n k h e =
     record {
       answer = rw p;
       tables = h .tables;
-      flat = λ zero φ q. absurd (let z : _≡_ {A = Parsed} (refused n k) (file φ) = sym p ∙ q in let y : _≡_ {A = ℕ} 0 1 = cc in omega arith);
+      flat = λ zero φ q. absurd (refusal-is-no-file φ (sym p ∙ q));
     }
 
 -- ---- a file
@@ -93,6 +96,11 @@ file-taken input lent left r t a n m h e =
       lengths = lengths-right lent (read-means-right input lent (found .0) (found .1));
     }
 
+-- no other file was read
+pub one-file : {input : List ℕ} {lent left : Tables} {t a n m : ℕ} (f : TakenFile input lent left t a n m) (φ : File)
+    → readInto lent input ≡ file φ → f .φ ≡ φ
+one-file f φ q = let same : file (f .φ) ≡ file φ = sym (f .read-is) ∙ q in cc
+
 pub given-to-judge : {input : List ℕ} {lent left : Tables} {t a n m : ℕ} (f : TakenFile input lent left t a n m)
     → Given (f .φ) t a n (left .commands) (left .steps)
 unfolding tablesRead
@@ -115,8 +123,7 @@ file-judged input lent left t a n m f v e = record {
   answer = e ∙ ap verdictOf (sym (f .read-is));
   tables = f .tables-are ∙ ap (tablesRead lent) (sym (f .read-is));
   flat = λ zero φ q ρ ls.
-      let same : file (f .φ) ≡ file φ = sym (f .read-is) ∙ q in
-      let φ-is : f .φ ≡ φ = cc in
+      let φ-is = one-file f φ q in
       let number-zero : (verdict (φ .policy) (φ .commands)) .number ≡ 0 =
       subst (λ (ψ : File). (verdict (ψ .policy) (ψ .commands)) .number ≡ 0) φ-is (ap (λ x. x .number) (sym e) ∙ zero) in
       accepted-is-flat (φ .policy) (φ .commands) (subst (λ (ψ : File). Lawful (ψ .policy)) φ-is (f .lawful)) number-zero ρ ls;

@@ -1,5 +1,5 @@
 -- What the numbers of the lent tables code, and what reading and running leave in them: the scope's section "Numbers of the answers".
-use Prim.Native.Nat.{ℕ, zero, suc, _+_, _-_, _*_, _≤_}
+use Prim.Native.Nat.{ℕ, zero, suc, _+_, _-_, _*_, _≤_, _<_}
 use mathlib.Core.Path.{_≡_}
 use mathlib.Core.Bool.{Bool, true, false, cond, _&&_}
 use mathlib.Core.List.{List, [], _∷_, _++_, map}
@@ -8,7 +8,7 @@ use lib.ListN.{length, replicate}
 use Rattle.model.specs.Basics.{All, every}
 use Rattle.model.specs.Types.{codeOf}
 use Rattle.model.specs.Step.{Command, Encrypt, Decrypt}
-use Rattle.model.specs.Value.{Value, const, fresh, enc, dec, rowOf}
+use Rattle.model.specs.Value.{Value, const, fresh, enc, dec, rowOf, valueAt}
 use Rattle.model.specs.Token.{Key, Room}
 use Rattle.model.specs.Session.{Arg, constant, ofLine, Line, calls, computes, Finished, Flat, run}
 use Rattle.model.specs.Frame.{File, stepFormed, returnsLast, namesMade, lineNames}
@@ -71,6 +71,18 @@ valueCode rows (dec v k) = packed 4 (rowOf v rows) (rowOf k rows)
 
 unfoldable pub rowCodes : List Value → List ℕ
 rowCodes rows = map (valueCode rows) rows
+
+-- a value whose parts have rows below i, and whose own number fits sixteen bits
+abbrev pub PartsBelow : List Value → ℕ → Value → Type 0
+PartsBelow rows i (const n) = n < 65536
+PartsBelow rows i (fresh n) = n < 65536
+PartsBelow rows i (enc v k) = (rowOf v rows < i) × (rowOf k rows < i)
+PartsBelow rows i (dec v k) = (rowOf v rows < i) × (rowOf k rows < i)
+
+-- rows that tell one value each: none twice, and each after its parts
+pub record Rows (rows : List Value) : Type 0 where
+  pub distinct : (i : ℕ) → i < length rows → rowOf (valueAt rows i) rows ≡ i
+  pub after-parts : (i : ℕ) → i < length rows → PartsBelow rows i (valueAt rows i)
 
 -- a stored key: its template, the rows of its value and of its handle, and a mark that its place is in use
 unfoldable pub keyCode : List Value → Key → ℕ
@@ -205,10 +217,12 @@ tablesRun t (file φ) =
       steps = before .steps;
     }
 
--- the promise of the run
+-- the promise of the run: also that there is a place for each row, that equal values have one, and that parts have earlier ones
 pub record RunIs (input : List ℕ) (lent : Tables) (r : RunAnswer) (left : Tables) : Type 0 where
   pub answer : r ≡ runAnswer (readInto lent input)
   pub tables : left ≡ tablesRun lent (readInto lent input)
+  pub few : (φ : File) → readInto lent input ≡ file φ → length (runOf φ .session .state .world .rows) ≤ 4096
+  pub apart : (φ : File) → readInto lent input ≡ file φ → Rows (runOf φ .session .state .world .rows)
 
 -- the bytes that the longest report takes: a verdict, 1,024 lines and an end
 abbrev pub reportSize : ℕ

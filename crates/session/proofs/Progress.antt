@@ -17,10 +17,9 @@ use Rattle.model.specs.Token.{State, empty, Out, gave, ended, stopped, full}
 use Rattle.model.specs.Session.{Line, calls, computes, Outcome, value, none, Finished, outcomesOf, Session, start, finishedAs, finish, rowAfter, Run, afterLine, runLine, runFrom}
 use Rattle.model.specs.Frame.{File}
 use Rattle.model.specs.Report.{programRoom, runOf, firstBreach}
-use Rattle.model.specs.Tables.{zeros, padded, Held, WellRead, rowCodes, keyCode, outcomeCode, headCode, argsCode, argsOfLine, lineRead, linesRead, hasOperands}
+use Rattle.model.specs.Tables.{zeros, padded, Held, WellRead, Rows, rowCodes, keyCode, outcomeCode, headCode, argsCode, argsOfLine, lineRead, linesRead, hasOperands}
 use Rattle.model.proofs.Tests.{and-left, and-right}
 use Rattle.model.proofs.TypedValues.{outcomes-snoc}
-use Rattle.values.specs.Holds.{Rows}
 use Rattle.values.proofs.Index.{index-at-most-length, index-kept-by-append, index-goes-on-after}
 use Rattle.values.proofs.Held.{zeros-hold-nothing}
 use Rattle.values.proofs.Padded.{set-next}
@@ -502,6 +501,8 @@ ran-through {φ} {i = i} at fixed over short =
       rows-are = at .carries .rows-held .is ∙ ap (λ k. padded k (rowCodes (at .session .state .world .rows))) (fixed .rows-length);
       keys-are = at .carries .keys-are ∙ ap (λ k. padded k (map (keyCode (at .session .state .world .rows)) (at .session .state .token .stored))) (fixed .keys-length);
       outcomes-are = at .finishing .codes-are;
+      rows-few = omega (arith, at .carries .rows-held .fit, fixed .rows-length);
+      rows-apart = at .carries .rows-held .rows;
       few-lines = at .finishing .few;
       lines-fit = line-fits at (omega (arith, at .carries .rows-held .fit, fixed .rows-length));
     })
@@ -521,6 +522,8 @@ ran-over {φ} {i = i} at fixed more d rows-long keys-long =
       rows-are = d .carries .rows-held .is ∙ ap (λ k. padded k (rowCodes (at .session .state .world .rows))) rows-long;
       keys-are = d .carries .keys-are ∙ ap (λ k. padded k (map (keyCode (at .session .state .world .rows)) (at .session .state .token .stored))) keys-long;
       outcomes-are = at .finishing .codes-are;
+      rows-few = omega (arith, d .carries .rows-held .fit, rows-long);
+      rows-apart = d .carries .rows-held .rows;
       few-lines = at .finishing .few;
       lines-fit = line-fits at (omega (arith, at .carries .rows-held .fit, fixed .rows-length));
     })

@@ -11,7 +11,7 @@ use Rattle.model.specs.Token.{State, Out, gave, ended, stopped, full}
 use Rattle.model.specs.Frame.{File}
 use Rattle.model.specs.Session.{Finished, Run}
 use Rattle.model.specs.Report.{firstBreach}
-use Rattle.model.specs.Tables.{zeros, padded, Held, WellRead, rowCodes, keyCode, outcomeCode}
+use Rattle.model.specs.Tables.{zeros, padded, Held, WellRead, Rows, rowCodes, keyCode, outcomeCode}
 use Rattle.values.specs.Holds.{Holds}
 use Rattle.token.specs.Carried.{countsOf, Carries, Performs}
 use Rattle.token.specs.declared.Counts.{Counts}
@@ -101,6 +101,8 @@ pub record RanIs (run : Run) (r : Ran) (rows keys outcomes : List ℕ) : Type 0 
   pub rows-are : rows ≡ padded 4096 (rowCodes (run .session .state .world .rows))
   pub keys-are : keys ≡ padded 256 (map (keyCode (run .session .state .world .rows)) (run .session .state .token .stored))
   pub outcomes-are : outcomes ≡ padded 1024 (map outcomeCode (run .session .finished))
+  pub rows-few : length (run .session .state .world .rows) ≤ 4096
+  pub rows-apart : Rows (run .session .state .world .rows)
   pub few-lines : length (run .session .finished) ≤ 1024
   pub lines-fit : (i : ℕ) (d : Finished) → i < length (run .session .finished)
       → (getD (run .session .finished) i d .row < 65536) × (getD (run .session .finished) i d .keys < 65536)

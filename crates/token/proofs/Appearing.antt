@@ -13,7 +13,8 @@ use Rattle.model.specs.Step.{Unknown, ops, opOf}
 use Rattle.model.specs.declared.Step.{Step}
 use Rattle.model.specs.Value.{Value, const, fresh, enc, dec, same, decrypt, rowOf, present, valueAt}
 use Rattle.model.specs.Token.{State, Room, atMost, gave, ended, stopped, full, withRow, withAtom, appear, newAtom, perform}
-use Rattle.values.specs.Holds.{PartsBelow, answerIn, rowsIn, Appeared}
+use Rattle.model.specs.Tables.{PartsBelow}
+use Rattle.values.specs.Holds.{answerIn, rowsIn, Appeared}
 use Rattle.values.specs.declared.Interned.{Interned}
 use Rattle.values.specs.declared.Interned.the-variants.{Found, Added, NoRoom}
 use Rattle.values.proofs.Present.{below-means-present, row-added}

@@ -14,10 +14,9 @@ use Rattle.model.specs.Step.{Unknown, ops, opOf}
 use Rattle.model.specs.Policy.{meets}
 use Rattle.model.specs.Value.{Value, same, rowOf, present, valueAt}
 use Rattle.model.specs.Token.{State, Room, stopped, appear, placeOf, keyAt, get, perform}
-use Rattle.model.specs.Tables.{keyCode}
+use Rattle.model.specs.Tables.{keyCode, Rows}
 use Rattle.model.specs.declared.Step.{Step}
 use Rattle.types.proofs.Table.{same-below}
-use Rattle.values.specs.Holds.{Rows}
 use Rattle.values.proofs.Index.{index-of-map}
 use Rattle.values.proofs.Present.{same-itself, same-is-equal, present-means-below, value-at-its-row}
 use Rattle.values.proofs.Rows.{row-at}

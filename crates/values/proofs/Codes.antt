@@ -10,9 +10,8 @@ use lib.ListN.{length, length-map}
 use borrow.Author.Tests.{eq-eqb, ne-eqb}
 use Rattle.model.specs.Basics.{indexBy}
 use Rattle.model.specs.Value.{Value, const, fresh, enc, dec, same, rowOf, valueAt}
-use Rattle.model.specs.Tables.{packed, valueCode, rowCodes}
+use Rattle.model.specs.Tables.{packed, valueCode, rowCodes, PartsBelow, Rows}
 use Rattle.values.specs.Coding.{rowOfKind, decodeRow}
-use Rattle.values.specs.Holds.{PartsBelow, Rows}
 use Rattle.values.specs.declared.Row.{Row}
 use Rattle.values.specs.declared.Row.the-variants.{Const, Fresh, Enc, Dec}
 use Rattle.values.specs.declared.Read.the-variants as read

@@ -9,9 +9,9 @@ use borrow.Author.Count.{below-more}
 use lib.ListN.{length, getD, take, set, length-append}
 use lib.Seq.{getD-take, take-at, ext-getD}
 use Rattle.model.specs.Value.{Value, const, present, valueAt}
-use Rattle.model.specs.Tables.{zeros, padded, valueCode, rowCodes}
+use Rattle.model.specs.Tables.{zeros, padded, valueCode, rowCodes, PartsBelow, Rows}
 use Rattle.values.specs.Coding.{decodeRow}
-use Rattle.values.specs.Holds.{PartsBelow, Rows, Holds}
+use Rattle.values.specs.Holds.{Holds}
 use Rattle.values.specs.declared.Read.the-variants as read
 use Rattle.values.proofs.Index.{getD-of-map}
 use Rattle.values.proofs.Rows.{no-rows, parts-at, rows-of-first, rows-with-one-more}
@@ -73,7 +73,7 @@ module _ {len : ℕ} {u : List ℕ} {us : List Value} (R : Rows us) (fit : lengt
   length-held : length u ≡ len
   length-held = ap length is ∙ length-padded len (rowCodes us) (omega (arith, length-codes us))
 
-  holds-padded : Holds u us
+  pub holds-padded : Holds u us
   holds-padded = record {
     is = is ∙ ap (λ k. padded k (rowCodes us)) (sym length-held);
     rows = R;

@@ -9,7 +9,7 @@ use native.Mathlib.Decide.{decLt}
 use lib.ListN.{length, length-append, List·getD-append}
 use lib.Seq.{getD-at}
 use Rattle.model.specs.Value.{Value, const, fresh, enc, dec, same, rowOf, present, valueAt}
-use Rattle.values.specs.Holds.{PartsBelow, Rows}
+use Rattle.model.specs.Tables.{PartsBelow, Rows}
 use Rattle.values.proofs.Index.{index-within-first}
 use Rattle.values.proofs.Present.{below-means-present, row-kept, row-added}
 

@@ -11,10 +11,10 @@ use lib.ListN.{length, getD, take, length-set}
 use borrow.Author.Tests.{eq-eqb, ne-eqb, lt-ltb, le-ltb}
 use Rattle.model.specs.Basics.{indexBy}
 use Rattle.model.specs.Value.{Value, const, fresh, enc, dec, same, isConst, decrypt, rowOf, present, valueAt}
-use Rattle.model.specs.Tables.{packed, valueCode}
+use Rattle.model.specs.Tables.{packed, valueCode, PartsBelow}
 use Rattle.values.specs.Coding.{codeRow, decodeRow, constantRow, constantRead, undoneRow, undoneRead}
 use Rattle.values.specs.Interning.{addAnswer, addTable, internAnswer, internTable, Stored, Interns}
-use Rattle.values.specs.Holds.{PartsBelow, Holds, answerIn, rowsIn, Appeared}
+use Rattle.values.specs.Holds.{Holds, answerIn, rowsIn, Appeared}
 use Rattle.values.specs.declared.Row.the-variants as row
 use Rattle.values.specs.declared.Undone.{Undone}
 use Rattle.values.specs.declared.Undone.the-variants.{To, Not}

@@ -1,26 +1,14 @@
 -- When a lent table holds the rows of a run, and what a function answers and leaves there when a value appears.
-use Prim.Native.Nat.{ℕ, _≤_, _<_}
+use Prim.Native.Nat.{ℕ, _≤_}
 use mathlib.Core.Path.{_≡_}
 use mathlib.Core.Bool.{cond}
 use mathlib.Core.List.{List, [], _∷_, _++_}
 use lib.Dec.{ltb}
 use lib.ListN.{length}
-use Rattle.model.specs.Value.{Value, const, fresh, enc, dec, rowOf, present, valueAt}
-use Rattle.model.specs.Tables.{padded, rowCodes}
+use Rattle.model.specs.Value.{Value, rowOf, present}
+use Rattle.model.specs.Tables.{padded, rowCodes, Rows}
 use Rattle.values.specs.declared.Interned.{Interned}
 use Rattle.values.specs.declared.Interned.the-variants.{Found, Added, NoRoom}
-
--- a value whose parts have rows below i, and whose own number fits sixteen bits
-abbrev pub PartsBelow : List Value → ℕ → Value → Type 0
-PartsBelow vs i (const n) = n < 65536
-PartsBelow vs i (fresh n) = n < 65536
-PartsBelow vs i (enc v k) = (rowOf v vs < i) × (rowOf k vs < i)
-PartsBelow vs i (dec v k) = (rowOf v vs < i) × (rowOf k vs < i)
-
--- rows that a run can make: none twice, and each after its parts
-pub record Rows (vs : List Value) : Type 0 where
-  pub distinct : (i : ℕ) → i < length vs → rowOf (valueAt vs i) vs ≡ i
-  pub after-parts : (i : ℕ) → i < length vs → PartsBelow vs i (valueAt vs i)
 
 -- the table t holds the rows vs and nothing else
 pub record Holds (t : List ℕ) (vs : List Value) : Type 0 where
