@@ -250,6 +250,21 @@ pub record LineDone (s : Session) (i : ℕ) (out : Out) (next : Counts) (row : �
   pub rowed : Rowed (left .world .rows) outcome row
   pub goes-on : (rest : Session → Run) → afterLine out i s rest ≡ rest (finish outcome left s)
 
+line-stopped : (s : Session) (i : ℕ) (out : Out) (next : Counts) (row : ℕ) (rows keys guards : List ℕ) → FewAtoms (s .state)
+    → done.Line next row ≡ done.Line (countsOf (s .state)) 65535 → Carries (s .state) rows keys guards
+    → ((rest : Session → Run) → afterLine out i s rest ≡ rest (finish none (s .state) s)) → LineDone s i out next row rows keys guards
+line-stopped s i out next row rows keys guards few same carried on = record {
+  outcome = none;
+  left = s .state;
+  carries = carried;
+  counts-are = cc;
+  few-atoms = few;
+  new-rows = [];
+  rows-grown = sym (append-nil (s .state .world .rows));
+  rowed = cc;
+  goes-on = on;
+}
+
 pub line-done : (s : Session) (i : ℕ) (out : Out) (o : CodeOutcome) (r : Settled) (next : Counts) (row : ℕ)
     (rows′ keys′ guards rows keys : List ℕ) → FewAtoms (s .state) → Performs (s .state) out o rows′ keys′ guards
     → SettledIs (s .state) out r rows keys guards → r ≡ done.Line next row → LineDone s i out next row rows keys guards
@@ -267,31 +282,9 @@ line-done s i (ended v σ) o r next row rows′ keys′ guards rows keys few p h
       goes-on = λ rest. refl;
     }
 line-done s i (gave v σ) o r next row rows′ keys′ guards rows keys few p h e =
-    let same : done.Line next row ≡ done.Line (countsOf (s .state)) 65535 = sym e ∙ h .answer in
-    record {
-      outcome = none;
-      left = s .state;
-      carries = h .carries;
-      counts-are = cc;
-      few-atoms = few;
-      new-rows = [];
-      rows-grown = sym (append-nil (s .state .world .rows));
-      rowed = cc;
-      goes-on = λ rest. refl;
-    }
+    line-stopped s i (gave v σ) next row rows keys guards few (sym e ∙ h .answer) (h .carries) (λ rest. refl)
 line-done s i (stopped σ) o r next row rows′ keys′ guards rows keys few p h e =
-    let same : done.Line next row ≡ done.Line (countsOf (s .state)) 65535 = sym e ∙ h .answer in
-    record {
-      outcome = none;
-      left = s .state;
-      carries = h .carries;
-      counts-are = cc;
-      few-atoms = few;
-      new-rows = [];
-      rows-grown = sym (append-nil (s .state .world .rows));
-      rowed = cc;
-      goes-on = λ rest. refl;
-    }
+    line-stopped s i (stopped σ) next row rows keys guards few (sym e ∙ h .answer) (h .carries) (λ rest. refl)
 line-done s i (full n σ) o r next row rows′ keys′ guards rows keys few p h e =
     let same : done.Line next row ≡ done.Over n = sym e ∙ h .answer in
     absurd (let z : _≡_ {A = ℕ} 0 1 = cc in omega arith)

@@ -87,10 +87,10 @@ undo-ready σ out o rows keys guards earlier later p e l =
 -- ---- the answers
 
 pub undone-settled : (σ : State) (out : Out) (o : Outcome) (rows keys guards : List ℕ) (earlier : Counts) → Ending out o → earlier ≡ countsOf σ
-    → Carries σ rows keys guards → SettledIs σ out (undoneAs o earlier) rows keys guards
-undone-settled σ (gave v σ′) (code.Gave c x) rows keys guards earlier (as-gave e) s h = record { answer = ap (λ d. done.Line d 65535) s; carries = h }
-undone-settled σ (stopped σ′) (code.Stopped c) rows keys guards earlier (as-stopped e) s h = record { answer = ap (λ d. done.Line d 65535) s; carries = h }
-undone-settled σ (full n σ′) (code.Full k c) rows keys guards earlier (as-full e f) s h = record { answer = ap done.Over (sym f); carries = h }
+    → {r : Settled} → r ≡ undoneAs o earlier → Carries σ rows keys guards → SettledIs σ out r rows keys guards
+undone-settled σ (gave v σ′) (code.Gave c x) rows keys guards earlier (as-gave e) s a h = record { answer = a ∙ ap (λ d. done.Line d 65535) s; carries = h }
+undone-settled σ (stopped σ′) (code.Stopped c) rows keys guards earlier (as-stopped e) s a h = record { answer = a ∙ ap (λ d. done.Line d 65535) s; carries = h }
+undone-settled σ (full n σ′) (code.Full k c) rows keys guards earlier (as-full e f) s a h = record { answer = a ∙ ap done.Over (sym f); carries = h }
 
 pub ended-settled : (σ : State) (out : Out) (rows keys guards : List ℕ) (later : Counts) (row : ℕ)
     → code.Ended later row ≡ outcomeOf out → Carries (stateOf out) rows keys guards → SettledIs σ out (done.Line later row) rows keys guards

@@ -13,7 +13,7 @@ use Rattle.model.specs.Session.{Finished, Run}
 use Rattle.model.specs.Report.{firstBreach}
 use Rattle.model.specs.Tables.{zeros, padded, Held, WellRead, Rows, rowCodes, keyCode, outcomeCode}
 use Rattle.values.specs.Holds.{Holds}
-use Rattle.token.specs.Carried.{countsOf, Carries, Performs}
+use Rattle.token.specs.Carried.{countsOf, Tidy, Carries, Extends, Performs}
 use Rattle.token.specs.declared.Counts.{Counts}
 use Rattle.token.specs.declared.Outcome.{Outcome}
 use Rattle.session.specs.declared.Ran.{Ran}
@@ -51,6 +51,12 @@ outcomeNumber row keys breached =
 
 unfoldable pub earliestOf : ℕ → ℕ → Bool → ℕ
 earliestOf first i breached = cond (eqb first 65535) (cond breached i first) first
+
+-- a line that took a state on and stopped leaves what it came from
+pub record StoppedIs (earlier later : Counts) (r : Settled) (rows keys rows′ keys′ : List ℕ) : Type 0 where
+  pub answer : r ≡ done.Line earlier 65535
+  pub carries : (σ σ′ : State) (guards : List ℕ) → Tidy σ → Carries σ′ rows keys guards → Extends σ σ′ → earlier ≡ countsOf σ
+      → later ≡ countsOf σ′ → Carries σ rows′ keys′ guards
 
 -- what is left of a line: a value's state, or the state before it
 abbrev pub settledOf : State → Out → Settled

@@ -15,7 +15,7 @@ ghost use Rattle.model.specs.Frame.{File};
 ghost use Rattle.model.specs.Report.{runOf};
 ghost use Rattle.values.specs.Holds.{Holds};
 ghost use Rattle.token.specs.Carried.{countsOf, Tidy, Performs};
-ghost use Rattle.session.specs.Sessioned.{SessionGiven, SessionReady, RanIs, GuardsBelow, breachedBy, outcomeNumber, earliestOf, SettleReady, SettledIs, handAfter, FinishReady, FinishedIs};
+ghost use Rattle.session.specs.Sessioned.{SessionGiven, SessionReady, RanIs, GuardsBelow, breachedBy, outcomeNumber, earliestOf, StoppedIs, SettleReady, SettledIs, handAfter, FinishReady, FinishedIs};
 
 // Whether some guarded value is a constant or in hand. The first n guards are rows.
 fn is_breached(rows: &[u64], guards: &[u64], hand: &[u8], n: usize) -> bool
@@ -69,6 +69,15 @@ enum Settled {
     Over(usize),
 }
 
+// A stopped line is undone, with all that it counted.
+fn stop_line(rows: &mut [u64], keys: &mut [u64], earlier: Counts, later: Counts) -> Settled
+    requires { ⌜ (earlier .rows ≤ later .rows) × (later .rows ≤ length (now rows)) × (earlier .keys ≤ later .keys) × (later .keys ≤ length (now keys)) ⌝ }
+    ensures { λ r. ⌜ StoppedIs earlier later r (now (rows .entry)) (now (keys .entry)) (now (rows .exit)) (now (keys .exit)) ⌝ }
+{
+    undo_line(rows, keys, earlier, later);
+    Settled::Line(earlier, 65535)
+}
+
 // A line that stopped or met an ending is undone.
 fn settle(rows: &mut [u64], keys: &mut [u64], earlier: Counts, o: Outcome) -> Settled
     requires { ⌜ SettleReady earlier o (now rows) (now keys) ⌝ }
@@ -76,14 +85,8 @@ fn settle(rows: &mut [u64], keys: &mut [u64], earlier: Counts, o: Outcome) -> Se
 {
     match o {
         Outcome::Ended(later, row) => Settled::Line(later, row),
-        Outcome::Gave(later, _) => {
-            undo_line(rows, keys, earlier, later);
-            Settled::Line(earlier, 65535)
-        }
-        Outcome::Stopped(later) => {
-            undo_line(rows, keys, earlier, later);
-            Settled::Line(earlier, 65535)
-        }
+        Outcome::Gave(later, _) => stop_line(rows, keys, earlier, later),
+        Outcome::Stopped(later) => stop_line(rows, keys, earlier, later),
         Outcome::Full(number, later) => {
             undo_line(rows, keys, earlier, later);
             Settled::Over(number)
