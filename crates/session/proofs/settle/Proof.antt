@@ -1,6 +1,7 @@
 -- `session::settle` meets its contract: a value keeps the state after the line; a stop or an ending undoes the line.
 -- Assumes nothing.
 use mathlib.Core.Path.{refl, sym, _∙_}
+use native.Mathlib.Omega.{arith}
 use Rattle.token.specs.Carried.{stateOf}
 use Rattle.session.proofs.Settling.{gave-is, stopped-is, full-is, later-is, undo-ready, undone-settled, ended-settled}
 use borrow.Author.Needs.{needs}
@@ -38,7 +39,7 @@ undo-line-requires c κs =
     let ready = c .before .before .before .before .before .before .before .pre in
     let ending = full-is (ready .out) _ _ (sym (c .before .before .before .o4 .given .1) ∙ ready .performs .answer) in
     let grown = undo-ready (ready .σ) (ready .out) _ _ _ (ready .guards) _ _ (ready .performs) (ready .counts-are) (later-is ending) in
-    (grown .rows-grown, grown .rows-fit, grown .keys-grown, grown .keys-fit)
+    (omega (arith, grown .rows-grown), grown .rows-fit, omega (arith, grown .keys-grown), grown .keys-fit)
 
 returns : tie.Need-returns
 returns c =
