@@ -14,7 +14,7 @@ use Rattle.model.specs.Frame.{File, byteAt, stepsOf, commandOf, stepFormed, ret
 use Rattle.model.specs.Tables.{padded, stepCode, commandCode}
 use Rattle.frames.specs.Turn.{turnOf}
 use Rattle.frames.specs.Parts.{noStep, filled, headFormed, DecodedAs, CommandStored, Takes}
-use Rattle.frames.specs.declared.Command.{Command}
+use Rattle.frames.specs.declared.command.Command.{Command}
 use Rattle.frames.specs.declared.Turn.the-variants as turn
 use Rattle.frames.proofs.Lists.{both, whole-rest, filled-first, filled-map}
 use Rattle.frames.proofs.Turns.{refused, room-left, is-command, taken, in-place}

@@ -2,7 +2,7 @@ pub mod Lists
 pub mod Numbers
 pub mod Turns
 pub mod Tables
-pub mod Policy
+pub mod Policies
 pub mod Steps
 pub mod Commands
 pub mod Arguments

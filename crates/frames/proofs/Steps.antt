@@ -15,9 +15,9 @@ use Rattle.model.specs.Frame.{byteAt, stepsOf, fieldFormed, fieldNames, stepFor
 use Rattle.model.specs.Tables.{stepCode}
 use Rattle.model.specs.declared.Step.{Step}
 use Rattle.frames.specs.Parts.{headFormed, stepAt, noStep, filled, meant, fieldsMeant}
-use Rattle.frames.specs.declared.Fields.{Fields}
-use Rattle.frames.specs.declared.Use.{Use}
-use Rattle.frames.specs.declared.Use.the-variants.{Value}
+use Rattle.frames.specs.declared.step.Fields.{Fields}
+use Rattle.frames.specs.declared.step.Use.{Use}
+use Rattle.frames.specs.declared.step.Use.the-variants.{Value}
 use Rattle.frames.proofs.Lists.{and-false, drop-more, take-more, next-of, none-of, over-more, over-done, filled-more}
 
 -- ---- a command's first bytes

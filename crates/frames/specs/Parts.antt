@@ -13,10 +13,10 @@ use Rattle.model.specs.Tables.{Held, stepCode, argsCode}
 use Rattle.model.specs.declared.Step.{Step}
 use Rattle.frames.specs.Turn.{Counted, TurnIs}
 use Rattle.frames.specs.declared.Turn.{Turn}
-use Rattle.frames.specs.declared.Command.{Command}
-use Rattle.frames.specs.declared.Use.{Use}
-use Rattle.frames.specs.declared.Use.the-variants.{Nothing, Value, Attributes}
-use Rattle.frames.specs.declared.Fields.{Fields}
+use Rattle.frames.specs.declared.command.Command.{Command}
+use Rattle.frames.specs.declared.step.Use.{Use}
+use Rattle.frames.specs.declared.step.Use.the-variants.{Nothing, Value, Attributes}
+use Rattle.frames.specs.declared.step.Fields.{Fields}
 
 -- a number and how large it can be
 pub record NumberIs (bytes : List ℕ) (n : ℕ) : Type 0 where

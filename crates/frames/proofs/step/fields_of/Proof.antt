@@ -1,0 +1,32 @@
+-- `frames::step::fields_of` meets its contract, by the op; an op above 5 is unknown and has nothing in its fields.
+-- Assumes nothing.
+use Rattle.frames.proofs.step.fields_of.Statement.{statement}
+use Rattle.frames.proofs.step.fields_of.Tie as tie
+use native.Mathlib.Omega.{arith}
+use lib.ListN.{List·getD-eq-default}
+use Rattle.model.specs.Step.{ops, Unknown}
+
+returns : tie.Need-returns
+returns c = rw (c .match .keys1)
+
+returns-2 : tie.Need-returns-2
+returns-2 c = rw (c .match .keys2)
+
+returns-3 : tie.Need-returns-3
+returns-3 c = rw (c .match .keys3)
+
+returns-4 : tie.Need-returns-4
+returns-4 c = rw (c .match .keys4)
+
+returns-5 : tie.Need-returns-5
+returns-5 c = rw (c .match .keys5)
+
+returns-6 : tie.Need-returns-6
+returns-6 c = rw (c .match .keys6)
+
+returns-7 : tie.Need-returns-7
+returns-7 c = rw (List·getD-eq-default ops Unknown {n = c .before .args .op} (omega arith))
+
+pub fields-of-spec : {M : Type 1} → statement M
+fields-of-spec =
+    tie.close (tie.spec returns returns-2 returns-3 returns-4 returns-5 returns-6 returns-7)
