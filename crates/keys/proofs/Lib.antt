@@ -1,0 +1,4 @@
+-- The laws that the functions' proofs cite.
+pub mod Searching
+pub mod Unpacking
+pub mod Lending
