@@ -1,6 +1,6 @@
 -- The records of the first n numbers: how one more is put among them, how many there are, and which stands at a place.
 -- Assumes nothing.
-use Prim.Native.Nat.{ℕ, suc, _+_, _≤_, _<_}
+use Prim.Native.Nat.{ℕ, _+_, _≤_, _<_}
 use mathlib.Core.Path.{_≡_, sym, ap, _∙_}
 use mathlib.Core.List.{List, map}
 use native.Mathlib.Nat.{zero-add}
@@ -9,7 +9,6 @@ use native.Mathlib.Omega.{arith}
 use lib.ListN.{length, getD, set, replicate, take, drop, length-map, length-replicate, List·getD-map, List·getD-append}
 use lib.Seq.{paste, paste-zero, paste-suc, length-paste, getD-take, length-take-le}
 use Rattle.keys.specs.Stored.{noRecord, recordOf, recordsOf}
-use Rattle.keys.specs.declared.KeyRecord.{KeyRecord}
 
 -- ---- a list d whose first elements are replaced by those of s
 
@@ -35,13 +34,15 @@ pub records-more : (keys : List ℕ) (i : ℕ) → i < length keys → i < 256
 unfolding recordsOf
 records-more keys i h few =
     ap (set (recordsOf keys i) i) (sym (List·getD-map recordOf keys i 0))
-    ∙ one-more (replicate 256 noRecord) (map recordOf keys) (recordOf 0) i (omega (arith, length-replicate 256 noRecord)) (omega (arith, length-map keys recordOf))
+    ∙ one-more (replicate 256 noRecord) (map recordOf keys) (recordOf 0) i
+    (omega (arith, length-replicate 256 noRecord)) (omega (arith, length-map keys recordOf))
 
 module _ (keys : List ℕ) (n : ℕ) (fits : n ≤ length keys) (few : n ≤ 256) where
   pub as-many-records : length (recordsOf keys n) ≡ 256
   unfolding recordsOf
   as-many-records =
-      length-paste (replicate 256 noRecord) 0 (map recordOf keys) n (omega (arith, length-replicate 256 noRecord)) (omega (arith, length-map keys recordOf))
+      length-paste (replicate 256 noRecord) 0 (map recordOf keys) n
+      (omega (arith, length-replicate 256 noRecord)) (omega (arith, length-map keys recordOf))
       ∙ length-replicate 256 noRecord
 
   -- the record at a place below n is that of the number there

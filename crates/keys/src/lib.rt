@@ -58,10 +58,10 @@ fn records(keys: &[u64], n: usize) -> [KeyRecord; 256]
         template: 0,
     };
     let mut recs = [none; 256];
-    let mut i: usize = 0;
-    while i < n {
-        recs[i] = unpacked(keys[i]);
-        i += 1;
+    let mut k: usize = 0;
+    while k < n {
+        recs[k] = unpacked(keys[k]);
+        k += 1;
     }
     recs
 }

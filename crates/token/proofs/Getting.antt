@@ -1,6 +1,6 @@
 -- What a get comes to: the search over the stored keys' numbers finds the model's key, and its number tells its template and its row.
 -- Assumes nothing.
-use Prim.Native.Nat.{ℕ, zero, suc, _/_, _%_, _<_}
+use Prim.Native.Nat.{ℕ, zero, suc, _%_, _<_}
 use mathlib.Core.Path.{_≡_, refl, sym, ap, _∙_, subst}
 use mathlib.Core.Bool.{Bool, true, false, true≢false, cond, _&&_}
 use mathlib.Core.List.{List, [], _∷_, map, map-map}
@@ -20,8 +20,10 @@ use Rattle.types.proofs.Table.{same-below}
 use Rattle.values.proofs.Index.{index-of-map}
 use Rattle.values.proofs.Present.{same-itself, same-is-equal, present-means-below, value-at-its-row}
 use Rattle.values.proofs.Rows.{row-at}
+use Rattle.keys.specs.Stored.{handleOf, keyRowOf, templateOf, storedOf}
+use Rattle.keys.specs.declared.Found.the-variants.{Key, Missing}
 use Rattle.token.specs.Carried.{countsOf, FewAtoms, Carries, Performs}
-use Rattle.token.specs.Numbers.{keyNumber, handleOf, getOf}
+use Rattle.token.specs.Numbers.{keyNumber, gotOf, getOf}
 use Rattle.token.specs.declared.Counts.{Counts}
 use Rattle.token.specs.declared.Outcome.the-variants.{Gave, Stopped}
 use Rattle.token.proofs.Growing.{noKey, same-rows, getD-map-within}
@@ -34,10 +36,10 @@ module _ (h k m : ℕ) (hs : h < 65536) (ks : k < 65536) (ms : m < 256) where
   handle-back : handleOf (keyNumber h k m) ≡ h
   handle-back = omega arith
 
-  key-back : keyNumber h k m / 256 % 65536 ≡ k
+  key-back : keyRowOf (keyNumber h k m) ≡ k
   key-back = omega arith
 
-  template-back : keyNumber h k m % 64 ≡ m % 64
+  template-back : templateOf (keyNumber h k m) ≡ m % 64
   template-back = omega arith
 
 -- attributes are the six lowest bits
@@ -81,16 +83,16 @@ module _ {σ : State} {t ks gs : List ℕ} (C : Carries σ t ks gs) where
     handle-at =
         handle-back _ _ _ (row-small _ (C .tidy .handle-present i h)) (row-small _ (C .tidy .key-present i h)) (C .tidy .template-byte i h)
 
-    key-at : getD ks i 0 / 256 % 65536 ≡ rowOf (keyAt (σ .token .stored) i .key) (σ .world .rows)
+    key-at : keyRowOf (getD ks i 0) ≡ rowOf (keyAt (σ .token .stored) i .key) (σ .world .rows)
     unfolding keyCode
     key-at =
-        ap (λ n. n / 256 % 65536) number-at
+        ap keyRowOf number-at
         ∙ key-back _ _ _ (row-small _ (C .tidy .handle-present i h)) (row-small _ (C .tidy .key-present i h)) (C .tidy .template-byte i h)
 
-    meets-at : (s : Step) → meets s (getD ks i 0 % 64) ≡ meets s (keyAt (σ .token .stored) i .template)
+    meets-at : (s : Step) → meets s (templateOf (getD ks i 0)) ≡ meets s (keyAt (σ .token .stored) i .template)
     unfolding keyCode
     meets-at s =
-        ap (λ n. meets s (n % 64)) number-at
+        ap (λ n. meets s (templateOf n)) number-at
         ∙ ap (meets s)
         (template-back _ _ _ (row-small _ (C .tidy .handle-present i h)) (row-small _ (C .tidy .key-present i h)) (C .tidy .template-byte i h))
         ∙ meets-by-six-bits s (keyAt (σ .token .stored) i .template) (C .tidy .template-byte i h)
@@ -113,7 +115,7 @@ module _ {σ : State} {t ks gs : List ℕ} (C : Carries σ t ks gs) where
     -- what is got from place p, which there is or not
     got-from : (p : ℕ) (f : Bool) → ltb p (length (σ .token .stored)) ≡ f → Performs σ
         (cond (f && meets s (keyAt (σ .token .stored) p .template)) (appear ρ (keyAt (σ .token .stored) p .key) σ) (stopped σ))
-        (cond (f && meets s (getD ks p 0 % 64)) (Gave (countsOf σ) (getD ks p 0 / 256 % 65536)) (Stopped (countsOf σ)))
+        (gotOf (countsOf σ) s (cond f (Key (keyRowOf (getD ks p 0)) (templateOf (getD ks p 0))) Missing))
         t ks gs
     got-from p false e = stops-as-it-is C few refl
     got-from p true e = rw (meets-at p h s, key-at p h) (go (meets s (keyAt (σ .token .stored) p .template)))
@@ -132,7 +134,7 @@ module _ {σ : State} {t ks gs : List ℕ} (C : Carries σ t ks gs) where
         go false = stops-as-it-is C few refl
 
     got : (x : ℕ) → x < length (σ .world .rows) → Performs σ (get ρ s (valueAt (σ .world .rows) x) σ) (getOf ks (countsOf σ) s x) t ks gs
-    unfolding get getOf
+    unfolding get getOf storedOf
     got x b = rw (place-found x b) (got-from (placeOf (valueAt (σ .world .rows) x) (σ .token .stored)) _ refl)
 
   pub gets : {c : Counts} → FewAtoms σ → c ≡ countsOf σ → (ρ : Room) (s : Step) (x : ℕ) (w : Value) → x < c .rows → s .op ≡ 1

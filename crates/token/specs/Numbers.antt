@@ -1,11 +1,10 @@
 -- What the inner functions do, as the code does it: over counts and the tables' numbers alone, whatever they stand for.
-use Prim.Native.Nat.{ℕ, _+_, _*_, _/_, _%_, _≤_, _<_}
+use Prim.Native.Nat.{ℕ, _+_, _*_, _≤_, _<_}
 use mathlib.Core.Path.{_≡_}
-use mathlib.Core.Bool.{Bool, true, false, cond, _&&_}
-use mathlib.Core.List.{List, map}
-use lib.Dec.{eqb, ltb}
-use lib.ListN.{length, take, getD, set}
-use Rattle.model.specs.Basics.{indexBy}
+use mathlib.Core.Bool.{Bool, true, false, cond}
+use mathlib.Core.List.{List}
+use lib.Dec.{ltb}
+use lib.ListN.{length, take, set}
 use Rattle.model.specs.Policy.{meets}
 use Rattle.model.specs.Value.{Value, fresh, present}
 use Rattle.model.specs.Tables.{padded}
@@ -13,6 +12,9 @@ use Rattle.model.specs.declared.Step.{Step}
 use Rattle.values.specs.Holds.{Holds, rowsIn}
 use Rattle.values.specs.declared.Interned.{Interned}
 use Rattle.values.specs.declared.Interned.the-variants.{Found, Added, NoRoom}
+use Rattle.keys.specs.Stored.{storedOf}
+use Rattle.keys.specs.declared.Found.{Found as FoundKey}
+use Rattle.keys.specs.declared.Found.the-variants.{Key, Missing}
 use Rattle.token.specs.declared.Counts.{Counts}
 use Rattle.token.specs.declared.Outcome.{Outcome}
 use Rattle.token.specs.declared.Outcome.the-variants.{Gave, Stopped, Full}
@@ -68,14 +70,13 @@ pub record Keeps (c : Counts) (h k t : ℕ) (guarded : Bool) (r : Outcome) (keys
 
 -- ---- getting
 
--- the row of its handle, in a stored key's number
-abbrev pub handleOf : ℕ → ℕ
-handleOf code = code / 16777216 % 65536
+-- a stored key that is found is got where its template has what the step asks for
+abbrev pub gotOf : Counts → Step → FoundKey → Outcome
+gotOf c s (Key row m) = cond (meets s m) (Gave c row) (Stopped c)
+gotOf c s Missing = Stopped c
 
 unfoldable pub getOf : List ℕ → Counts → Step → ℕ → Outcome
-getOf keys c s x =
-    let i = indexBy (eqb x) (take (c .keys) (map handleOf keys)) in
-    cond (ltb i (c .keys) && meets s (getD keys i 0 % 64)) (Gave c (getD keys i 0 / 256 % 65536)) (Stopped c)
+getOf keys c s x = gotOf c s (storedOf keys (c .keys) x)
 
 -- ---- forgetting: where there are zeros after the first `to` numbers, there are zeros after the first `from` of them
 

@@ -1,19 +1,18 @@
 // The token over the lent tables: what one step does, in row numbers and counts.
 // Inner functions promise counts and numbers where they can. What generate, store and the public functions promise is said of
 // every state that the tables may carry.
+use keys::Found;
 use model::Step;
 use values::Interned;
 ghost use mathlib.Core.Path.{_≡_};
-ghost use mathlib.Core.List.{List, map};
+ghost use mathlib.Core.List.{List};
 ghost use Prim.Native.Nat.{ℕ, _≤_, _<_};
-ghost use lib.Dec.{eqb};
-ghost use lib.ListN.{length, take};
-ghost use Rattle.model.specs.Basics.{indexBy};
+ghost use lib.ListN.{length};
 ghost use Rattle.model.specs.Step.{opOf};
 ghost use Rattle.model.specs.Value.{valueAt};
 ghost use Rattle.model.specs.Token.{State, generate, store, perform};
 ghost use Rattle.token.specs.Carried.{roomOf, countsOf, Carries, FewAtoms, Ready, Named, Performs, Extends, Tidy};
-ghost use Rattle.token.specs.Numbers.{tookOf, MakesAtom, MakesHandle, keyNumber, Keeps, handleOf, getOf, ForgetsKeys};
+ghost use Rattle.token.specs.Numbers.{tookOf, MakesAtom, MakesHandle, keyNumber, Keeps, getOf, ForgetsKeys};
 
 // How many rows, stored keys, fresh atoms and guarded values there are.
 pub struct Counts {
@@ -176,37 +175,22 @@ fn store(
     keep(keys, guards, c1, h, x, t, t / 2 % 2 == 1)
 }
 
-// The place of the first of n stored keys whose handle is in row x, or n where there is none.
-fn find_handle(keys: &[u64], n: usize, x: usize) -> usize
-    requires { ⌜ n ≤ length (now keys) ⌝ }
-    ensures { λ r. ⌜ r ≡ indexBy (eqb x) (take n (map handleOf (now (keys .entry)))) ⌝ }
-{
-    let mut i: usize = 0;
-    while i < n {
-        if (keys[i] / 16777216 % 65536) as usize == x {
-            return i;
-        }
-        i += 1;
-    }
-    i
-}
-
 // The stored key of the handle in row x, where its template has what the step asks for. It has a row already.
 fn get(keys: &[u64], c: Counts, s: Step, x: usize) -> Outcome
-    requires { ⌜ c .keys ≤ length (now keys) ⌝ }
+    requires { ⌜ (c .keys ≤ length (now keys)) × (length (now keys) ≤ 256) ⌝ }
     ensures { λ r. ⌜ r ≡ getOf (now (keys .entry)) c s x ⌝ }
 {
     let n = c.keys;
-    let i = find_handle(keys, n, x);
-    if n <= i {
-        return Outcome::Stopped(c);
+    let found = keys::stored(keys, n, x);
+    match found {
+        Found::Missing => Outcome::Stopped(c),
+        Found::Key(row, m) => {
+            if types::meets_template(s, m) {
+                return Outcome::Gave(c, row);
+            }
+            Outcome::Stopped(c)
+        }
     }
-    let code = keys[i];
-    let m = (code % 64) as u8;
-    if types::meets_template(s, m) {
-        return Outcome::Gave(c, (code / 256 % 65536) as usize);
-    }
-    Outcome::Stopped(c)
 }
 
 // One step. x and y are the rows of the values that its fields a and b name, below the number of rows where the op uses them.

@@ -1,4 +1,4 @@
--- `keys::at` meets its contract: a walk of its MIR by hand. The record lies 24 · i past the slice's pointer and is read whole; its part of the slice is had twice, to be put back and to be returned.
+-- `keys::at` meets its contract, by a walk of its MIR. The record lies 24 · i past the slice's pointer; what it owns is had twice, to be put back and to be returned.
 -- Assumes nothing.
 use Prim.Native.Nat.{ℕ, _*_, _^_, _<_}
 use mathlib.Core.Path.{refl, sym}

@@ -1,4 +1,4 @@
--- `keys::found_at` meets its contract: a walk of its MIR by hand. The records are made in a local, which is lent as a slice for a lifetime that is made here, and comes back.
+-- `keys::found_at` meets its contract, by a walk of its MIR. The records are in a local, which is lent for a lifetime that is made here, and comes back.
 -- Assumes nothing.
 use Prim.Native.Nat.{ℕ, _^_, _≤_, _<_}
 use mathlib.Core.Path.{_≡_, refl, sym, ap, _∙_}

@@ -1,4 +1,4 @@
--- `keys::lookup` meets its contract: a walk of its MIR by hand. The record is read by one call, and what it says told by another; what the slice owns is had twice, for the call and for the exit.
+-- `keys::lookup` meets its contract, by a walk of its MIR with two calls. What the slice owns is had twice, for the first call and for the exit.
 -- Assumes nothing.
 use Prim.Native.Nat.{ℕ, _^_, _<_}
 use mathlib.Core.Path.{_≡_, refl, ap, _∙_}

@@ -1,4 +1,4 @@
--- `keys::records` meets its contract. The loop's invariant: the records of the first i numbers stand, and the others are empty.
+-- `keys::records` meets its contract. The loop's invariant: the records of the first k numbers stand, and the others are empty.
 -- Assumes nothing.
 use Prim.Native.Nat.{_-_, _≤_}
 use mathlib.Core.Path.{_≡_, ap, _∙_}
@@ -10,10 +10,10 @@ use Rattle.keys.proofs.records.Statement.{statement}
 use Rattle.keys.proofs.records.Tie as tie
 
 abbrev Inv-loop : tie.InvT-loop
-Inv-loop keys n recs₀ i₀ recs i = (i ≤ n) × (recs ≡ recordsOf keys i)
+Inv-loop keys n recs₀ k₀ recs k = (k ≤ n) × (recs ≡ recordsOf keys k)
 
 abbrev μ-loop : tie.MeasureT-loop
-μ-loop keys n recs₀ i₀ recs i = n - i
+μ-loop keys n recs₀ k₀ recs k = n - k
 
 loop-holds : tie.Need-loop-holds Inv-loop μ-loop
 loop-holds c = (omega arith, no-records (c .before .args .keys .now))
@@ -33,8 +33,8 @@ mul-recs c = omega arith
 array-set-from-recs : tie.Need-array-set-from-recs Inv-loop μ-loop
 array-set-from-recs c = omega arith
 
-add-i : tie.Need-add-i Inv-loop μ-loop
-add-i c = omega arith
+add-k : tie.Need-add-k Inv-loop μ-loop
+add-k c = omega arith
 
 loop-less : tie.Need-loop-less Inv-loop μ-loop
 loop-less c = omega arith
@@ -43,7 +43,7 @@ loop-again : tie.Need-loop-again Inv-loop μ-loop
 loop-again c =
     let l = c .before .before .before in
     let keys = l .before .before .args .keys .now in
-    (omega arith, rw (l .loop .inv .1, c .unpacked .ensures) (records-more keys (l .loop .i) (omega arith) (omega arith)))
+    (omega arith, rw (l .loop .inv .1, c .unpacked .ensures) (records-more keys (l .loop .k) (omega arith) (omega arith)))
 
 returns : tie.Need-returns Inv-loop μ-loop
 returns c =
@@ -63,7 +63,7 @@ records-spec =
     unpacked-requires
     mul-recs
     array-set-from-recs
-    add-i
+    add-k
     loop-less
     loop-again
     returns)

@@ -1,64 +1,59 @@
 -- `token::get` meets its contract: no such handle, a template that does not have what is asked for, and a key that is got.
 -- Assumes nothing.
-use Prim.Native.Nat.{_%_}
 use mathlib.Core.Path.{_≡_, refl, sym, _∙_}
 use mathlib.Core.Bool.{true, false}
+use native.Mathlib.Omega.{arith}
 use borrow.Author.Needs.{needs}
-use borrow.Author.Tests.{lt-ltb, le-ltb}
-use lib.ListN.{getD}
 use Rattle.model.specs.Policy.{meets}
+use Rattle.keys.proofs.Searching.{template-below-64}
 use Rattle.token.specs.Numbers.{getOf}
 use Rattle.token.proofs.get.Statement.{statement}
 use Rattle.token.proofs.get.Tie as tie
 
-find-handle-requires : tie.Need-find-handle-requires
-find-handle-requires c κs = search needs
+stored-requires : tie.Need-stored-requires
+stored-requires c κs = search needs
+
+enum-told : tie.Need-enum-told
+enum-told c = search needs
+
+enum-known-found : tie.Need-enum-known-found
+enum-known-found c = search needs
+
+meets-template-requires : tie.Need-meets-template-requires
+meets-template-requires c κs =
+    let f = c .before in
+    let s = f .before .before in
+    let a = s .before .before .args in
+    omega (arith, template-below-64 (a .keys .now) (a .c .keys) (a .x) _ _ (sym (s .stored .ensures) ∙ f .found .given .1))
 
 returns : tie.Need-returns
 unfolding getOf
 returns c =
-    let f = c .before in
-    rw (← f .find-handle .ensures, le-ltb _ _ (c .if1 .taken))
-
-mul-code : tie.Need-mul-code
-mul-code c = search needs
-
-shared-slice-read-code : tie.Need-shared-slice-read-code
-shared-slice-read-code c = search needs
-
-cast-m : tie.Need-cast-m
-cast-m c = search needs
-
-meets-template-requires : tie.Need-meets-template-requires
-meets-template-requires c κs = search needs
+    let f = c .before .before .before in
+    let s = f .before .before in
+    let met : meets (s .before .before .args .s) (f .found .given .0 .1 .0) ≡ true = sym (c .before .meets-template .ensures) ∙ c .if1 .taken in
+    rw (← s .stored .ensures, f .found .given .1, met) refl
 
 returns-2 : tie.Need-returns-2
 unfolding getOf
-returns-2 c =
-    let m = c .before in
-    let f = m .before .before .before in
-    let a = f .before .before .args in
-    let met : meets (a .s) (getD (a .keys .now) (f .find-handle .result) 0 % 64) ≡ true = sym (m .meets-template .ensures) ∙ c .if2 .taken in
-    rw (← f .find-handle .ensures, lt-ltb _ _ (m .before .before .if1 .left), met) refl
+returns-2 c = rw (← c .before .before .stored .ensures, c .enum-told .given .1) refl
 
 returns-3 : tie.Need-returns-3
 unfolding getOf
 returns-3 c =
-    let m = c .before in
-    let f = m .before .before .before in
-    let a = f .before .before .args in
-    let unmet : meets (a .s) (getD (a .keys .now) (f .find-handle .result) 0 % 64) ≡ false = sym (m .meets-template .ensures) ∙ c .if2 .left in
-    rw (← f .find-handle .ensures, lt-ltb _ _ (m .before .before .if1 .left), unmet)
+    let f = c .before .before .before in
+    let s = f .before .before in
+    let unmet : meets (s .before .before .args .s) (f .found .given .0 .1 .0) ≡ false = sym (c .before .meets-template .ensures) ∙ c .if1 .left in
+    rw (← s .stored .ensures, f .found .given .1, unmet) refl
 
 pub get-spec : {M : Type 1} → statement M
 get-spec =
     tie.close
     (tie.spec
-    find-handle-requires
-    returns
-    mul-code
-    shared-slice-read-code
-    cast-m
+    stored-requires
+    enum-told
+    enum-known-found
     meets-template-requires
+    returns
     returns-2
     returns-3)
