@@ -4,10 +4,9 @@ use mathlib.Core.Path.{_≡_}
 use mathlib.Core.Bool.{Bool, true, false, cond}
 use mathlib.Core.List.{List}
 use lib.Dec.{ltb}
-use lib.ListN.{length, take, set}
+use lib.ListN.{length, set}
 use Rattle.model.specs.Policy.{meets}
 use Rattle.model.specs.Value.{Value, fresh, present}
-use Rattle.model.specs.Tables.{padded}
 use Rattle.model.specs.declared.Step.{Step}
 use Rattle.values.specs.Holds.{Holds, rowsIn}
 use Rattle.values.specs.declared.Interned.{Interned}
@@ -77,9 +76,3 @@ gotOf c s Missing = Stopped c
 
 unfoldable pub getOf : List ℕ → Counts → Step → ℕ → Outcome
 getOf keys c s x = gotOf c s (storedOf keys (c .keys) x)
-
--- ---- forgetting: where there are zeros after the first `to` numbers, there are zeros after the first `from` of them
-
-pub record ForgetsKeys (from to : ℕ) (before exit : List ℕ) : Type 0 where
-  pub length-kept : length exit ≡ length before
-  pub cut : before ≡ padded (length before) (take to before) → exit ≡ padded (length before) (take from before)

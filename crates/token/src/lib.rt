@@ -12,7 +12,7 @@ ghost use Rattle.model.specs.Step.{opOf};
 ghost use Rattle.model.specs.Value.{valueAt};
 ghost use Rattle.model.specs.Token.{State, generate, store, perform};
 ghost use Rattle.token.specs.Carried.{roomOf, countsOf, Carries, FewAtoms, Ready, Named, Performs, Extends, Tidy};
-ghost use Rattle.token.specs.Numbers.{tookOf, MakesAtom, MakesHandle, keyNumber, Keeps, getOf, ForgetsKeys};
+ghost use Rattle.token.specs.Numbers.{tookOf, MakesAtom, MakesHandle, keyNumber, Keeps, getOf};
 
 // How many rows, stored keys, fresh atoms and guarded values there are.
 pub struct Counts {
@@ -219,23 +219,11 @@ pub fn perform_step(
     }
 }
 
-// The keys from `from` on are made unused again; there are `to` keys.
-fn forget_keys(keys: &mut [u64], from: usize, to: usize)
-    requires { ⌜ (from ≤ to) × (to ≤ length (now keys)) ⌝ }
-    ensures { λ _. ⌜ ForgetsKeys from to (now (keys .entry)) (now (keys .exit)) ⌝ }
-{
-    let mut left = to - from;
-    while 0 < left {
-        left -= 1;
-        keys[from + left] = 0;
-    }
-}
-
 // Back to the counts of an earlier state of the same line: what the line has added since is made unused again.
 pub fn undo_line(rows: &mut [u64], keys: &mut [u64], earlier: Counts, later: Counts)
     requires { ⌜ (earlier .rows ≤ later .rows) × (later .rows ≤ length (now rows)) × (earlier .keys ≤ later .keys) × (later .keys ≤ length (now keys)) ⌝ }
     ensures { λ _. ⌜ ((σ σ′ : State) (guards : List ℕ) → Tidy σ → Carries σ′ (now (rows .entry)) (now (keys .entry)) guards → Extends σ σ′ → earlier ≡ countsOf σ → later ≡ countsOf σ′ → Carries σ (now (rows .exit)) (now (keys .exit)) guards) ⌝ }
 {
-    values::forget_rows(rows, earlier.rows, later.rows);
-    forget_keys(keys, earlier.keys, later.keys);
+    values::forget(rows, earlier.rows, later.rows);
+    values::forget(keys, earlier.keys, later.keys);
 }

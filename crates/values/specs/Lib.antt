@@ -2,3 +2,4 @@
 pub mod Coding
 pub mod Interning
 pub mod Holds
+pub mod Forgetting

@@ -2,7 +2,7 @@
 // The inner functions' contracts speak of the numbers alone; those of the public functions, of the values that they hold.
 ghost use mathlib.Core.Path.{_≡_};
 ghost use mathlib.Core.Bool.{false};
-ghost use mathlib.Core.List.{List, _++_};
+ghost use mathlib.Core.List.{List};
 ghost use Prim.Native.Nat.{_≤_, _<_};
 ghost use lib.Dec.{eqb};
 ghost use lib.ListN.{length, take};
@@ -12,6 +12,7 @@ ghost use Rattle.model.specs.Tables.{packed};
 ghost use Rattle.values.specs.Holds.{Holds, Appeared};
 ghost use Rattle.values.specs.Coding.{RowFits, codeRow, decodeRow, undoneRead};
 ghost use Rattle.values.specs.Interning.{Stored, Interns};
+ghost use Rattle.values.specs.Forgetting.{Forgets};
 
 // One case for each kind of value; the parts of an encryption and of an undone encryption are earlier rows.
 pub enum Row {
@@ -185,14 +186,14 @@ pub fn is_constant(rows: &[u64], i: usize) -> bool
     true
 }
 
-// The rows from `from` on are made unused again; there are `to` rows.
-pub fn forget_rows(rows: &mut [u64], from: usize, to: usize)
-    requires { ⌜ (from ≤ to) × (to ≤ length (now rows)) ⌝ }
-    ensures { λ _. ⌜ ((us ws : List Value) → Holds (now (rows .entry)) (us ++ ws) → from ≡ length us → to ≡ length (us ++ ws) → Holds (now (rows .exit)) us × (length (now (rows .exit)) ≡ length (now (rows .entry)))) ⌝ }
+// Of the first `to` entries of a table those from `from` on are made unused again.
+pub fn forget(table: &mut [u64], from: usize, to: usize)
+    requires { ⌜ (from ≤ to) × (to ≤ length (now table)) ⌝ }
+    ensures { λ _. ⌜ Forgets from to (now (table .entry)) (now (table .exit)) ⌝ }
 {
     let mut left = to - from;
     while 0 < left {
         left -= 1;
-        rows[from + left] = 0;
+        table[from + left] = 0;
     }
 }

@@ -1,4 +1,4 @@
--- `values::forget_rows` meets its contract. The loop's invariant: where there were zeros after the last row, there are zeros after the rows that are left.
+-- `values::forget` meets its contract. The loop's invariant: where there were zeros after the last entry, there are zeros after those that are left.
 -- Assumes nothing.
 use Prim.Native.Nat.{_+_, _-_, _≤_}
 use mathlib.Core.Path.{_≡_, refl}
@@ -7,17 +7,16 @@ use borrow.Author.Needs.{needs}
 use lib.ListN.{length, take, length-set}
 use Rattle.model.specs.Tables.{padded}
 use Rattle.values.proofs.Padded.{zeros-from-one-before}
-use Rattle.values.proofs.Held.{zeros-after, first-held}
-use Rattle.values.proofs.forget_rows.Statement.{statement}
-use Rattle.values.proofs.forget_rows.Tie as tie
+use Rattle.values.proofs.forget.Statement.{statement}
+use Rattle.values.proofs.forget.Tie as tie
 
 abbrev Inv-loop : tie.InvT-loop
-Inv-loop rows₀ from to left₀ rows left =
-    (left ≤ to - from) × (length rows ≡ length rows₀)
-    × (rows₀ ≡ padded (length rows₀) (take to rows₀) → rows ≡ padded (length rows₀) (take (from + left) rows₀))
+Inv-loop table₀ from to left₀ table left =
+    (left ≤ to - from) × (length table ≡ length table₀)
+    × (table₀ ≡ padded (length table₀) (take to table₀) → table ≡ padded (length table₀) (take (from + left) table₀))
 
 abbrev μ-loop : tie.MeasureT-loop
-μ-loop rows₀ from to left₀ rows left = left
+μ-loop table₀ from to left₀ table left = left
 
 sub-left : tie.Need-sub-left Inv-loop μ-loop
 sub-left c = omega arith
@@ -31,14 +30,14 @@ loop-holds c =
 sub-left-2 : tie.Need-sub-left-2 Inv-loop μ-loop
 sub-left-2 c = omega arith
 
-add-rows : tie.Need-add-rows Inv-loop μ-loop
-add-rows c = omega arith
+add-table : tie.Need-add-table Inv-loop μ-loop
+add-table c = omega arith
 
-mul-rows : tie.Need-mul-rows Inv-loop μ-loop
-mul-rows c = search needs
+mul-table : tie.Need-mul-table Inv-loop μ-loop
+mul-table c = search needs
 
-slice-write-rows : tie.Need-slice-write-rows Inv-loop μ-loop
-slice-write-rows c = omega arith
+slice-write-table : tie.Need-slice-write-table Inv-loop μ-loop
+slice-write-table c = omega arith
 
 loop-less : tie.Need-loop-less Inv-loop μ-loop
 loop-less c = omega arith
@@ -49,7 +48,7 @@ loop-again c =
     let a = c .before .before .args in (
       omega arith,
       simp length-set (l .inv .1),
-      λ e. zeros-from-one-before (a .rows .now) (l .rows) (a .from + l .left) (a .from + (l .left - 1)) (omega arith) (omega arith) (l .inv .2 e),
+      λ e. zeros-from-one-before (a .table .now) (l .table) (a .from + l .left) (a .from + (l .left - 1)) (omega arith) (omega arith) (l .inv .2 e),
     )
 
 same-length : tie.Need-same-length Inv-loop μ-loop
@@ -60,10 +59,10 @@ returns c =
     let l = c .before .loop in
     let a = c .before .before .args in
     let none : a .from + l .left ≡ a .from = omega arith in
-    λ us ws H first all. first-held us ws H first (rw none at (l .inv .2 (zeros-after H (a .to) all)))
+    record { length-kept = l .inv .1; cut = λ e. rw none at (l .inv .2 e) }
 
-pub forget-rows-spec : {M : Type 1} → statement M
-forget-rows-spec =
+pub forget-spec : {M : Type 1} → statement M
+forget-spec =
     tie.close
     (tie.spec
     Inv-loop
@@ -71,9 +70,9 @@ forget-rows-spec =
     sub-left
     loop-holds
     sub-left-2
-    add-rows
-    mul-rows
-    slice-write-rows
+    add-table
+    mul-table
+    slice-write-table
     loop-less
     loop-again
     same-length
