@@ -6,18 +6,6 @@ ghost use lib.ListN.{length};
 ghost use Rattle.model.specs.Tables.{ReportIs};
 ghost use Rattle.export.specs.Exported.{ReadTold, VerdictTold, RunTold};
 
-fn wide(n: usize) -> u64
-    ensures { λ r. ⌜ r ≡ n ⌝ }
-{
-    n as u64
-}
-
-fn wide_byte(n: u8) -> u64
-    ensures { λ r. ⌜ r ≡ n ⌝ }
-{
-    n as u64
-}
-
 // The numbers of an answer, into a slice of their size.
 fn tell(answer: &mut [u64], numbers: &[u64])
     requires { ⌜ length (now answer) ≡ length (now numbers) ⌝ }
@@ -61,13 +49,13 @@ pub extern "C" fn migladze_read(
     );
     match told {
         ReadAnswer::Refused(number, frame) => {
-            tell(answer, &[wide(number), wide(frame), 0, 0, 0, 0]);
+            tell(answer, &[number as u64, frame as u64, 0, 0, 0, 0]);
             6
         }
         ReadAnswer::Taken(transported, allowing, n, m) => {
             tell(
                 answer,
-                &[0, 0, wide_byte(transported), allowing, wide(n), wide(m)],
+                &[0, 0, transported as u64, allowing, n as u64, m as u64],
             );
             6
         }
@@ -102,7 +90,7 @@ pub extern "C" fn migladze_verdict(
         commands,
         steps,
     );
-    tell(answer, &[wide(v.number), wide(v.frame), wide(v.step)]);
+    tell(answer, &[v.number as u64, v.frame as u64, v.step as u64]);
     3
 }
 
@@ -137,11 +125,11 @@ pub extern "C" fn migladze_run(
     );
     match told {
         RunAnswer::Refused(number, frame) => {
-            tell(answer, &[wide(number), wide(frame), 0, 0, 0]);
+            tell(answer, &[number as u64, frame as u64, 0, 0, 0]);
             5
         }
         RunAnswer::Ended(ending, place, first) => {
-            tell(answer, &[0, 0, wide(ending), wide(place), wide(first)]);
+            tell(answer, &[0, 0, ending as u64, place as u64, first as u64]);
             5
         }
     }
