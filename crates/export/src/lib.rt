@@ -53,10 +53,8 @@ pub extern "C" fn migladze_read(
             6
         }
         ReadAnswer::Taken(transported, allowing, n, m) => {
-            tell(
-                answer,
-                &[0, 0, transported as u64, allowing, n as u64, m as u64],
-            );
+            let code = transported as u64;
+            tell(answer, &[0, 0, code, allowing, n as u64, m as u64]);
             6
         }
     }

@@ -7,7 +7,7 @@ use Rattle.export.proofs.migladze_read.Statement.{statement}
 use Rattle.export.proofs.migladze_read.Tie as tie
 
 returns : tie.Need-returns
-returns c = untold (c .if1 .taken)
+returns c = untold (λ e. omega arith)
 
 read-requires : tie.Need-read-requires
 read-requires c κs = search needs
@@ -24,8 +24,8 @@ tell-requires c κs = search needs
 enum-known-told-2 : tie.Need-enum-known-told-2
 enum-known-told-2 c = search needs
 
-cast-t46 : tie.Need-cast-t46
-cast-t46 c = search needs
+cast-code : tie.Need-cast-code
+cast-code c = search needs
 
 slice-aggregate-tell-2 : tie.Need-slice-aggregate-tell-2
 slice-aggregate-tell-2 c = search needs
@@ -59,7 +59,7 @@ same-length-8 c = search needs
 
 returns-2 : tie.Need-returns-2
 returns-2 c =
-    refusal-told (c .before .before .before .before .before .before .before .before .before .before .before .before .before .before .before .before .before .before .before .before .before .before .before .before .before .before .before .before .before .before .if1 .left) (c .before .before .before .before .before .before .before .before .before .before .before .before .before .before .before .before .before .before .before .before .before .before .read .ensures) (c .before .before .before .before .before .before .told .given .1) (c .before .before .tell .ensures) (omega arith) (omega arith)
+    refusal-told (omega (arith, c .before .before .before .before .before .before .before .before .before .before .before .before .before .before .before .before .before .before .before .before .before .before .before .before .before .before .before .before .before .before .if1 .left)) (c .before .before .before .before .before .before .before .before .before .before .before .before .before .before .before .before .before .before .before .before .before .before .read .ensures) (c .before .before .before .before .before .before .told .given .1) (c .before .before .tell .ensures) (omega arith) (omega arith)
 
 same-length-9 : tie.Need-same-length-9
 same-length-9 c = search needs
@@ -87,7 +87,7 @@ same-length-16 c = search needs
 
 returns-3 : tie.Need-returns-3
 returns-3 c =
-    file-told (c .before .before .before .before .before .before .before .before .before .before .before .before .before .before .before .before .before .before .before .before .before .before .before .before .before .before .before .before .before .before .if1 .left) (c .before .before .before .before .before .before .before .before .before .before .before .before .before .before .before .before .before .before .before .before .before .before .read .ensures) (c .before .before .before .before .before .before .told2 .given .1) (c .before .before .tell2 .ensures) (omega arith) (omega arith) (omega arith) (omega arith)
+    file-told (omega (arith, c .before .before .before .before .before .before .before .before .before .before .before .before .before .before .before .before .before .before .before .before .before .before .before .before .before .before .before .before .before .before .if1 .left)) (c .before .before .before .before .before .before .before .before .before .before .before .before .before .before .before .before .before .before .before .before .before .before .read .ensures) (c .before .before .before .before .before .before .told2 .given .1) (c .before .before .tell2 .ensures) (omega arith) (omega arith) (omega arith) (omega arith)
 
 pub migladze-read-spec : {M : Type 1} → statement M
 migladze-read-spec =
@@ -99,7 +99,7 @@ migladze-read-spec =
     slice-aggregate-tell
     tell-requires
     enum-known-told-2
-    cast-t46
+    cast-code
     slice-aggregate-tell-2
     tell-requires-2
     same-length

@@ -7,7 +7,7 @@ use Rattle.export.proofs.migladze_run.Statement.{statement}
 use Rattle.export.proofs.migladze_run.Tie as tie
 
 returns : tie.Need-returns
-returns c = untold (c .if1 .taken)
+returns c = untold (λ e. omega arith)
 
 run-requires : tie.Need-run-requires
 run-requires c κs = search needs
@@ -56,7 +56,7 @@ same-length-8 c = search needs
 
 returns-2 : tie.Need-returns-2
 returns-2 c =
-    refused-run-told (c .before .before .before .before .before .before .before .before .before .before .before .before .before .before .before .before .before .before .before .before .before .before .before .before .before .before .before .before .before .before .if1 .left) (c .before .before .before .before .before .before .before .before .before .before .before .before .before .before .before .before .before .before .before .before .before .before .run .ensures) (c .before .before .before .before .before .before .told .given .1) (c .before .before .tell .ensures) (omega arith) (omega arith)
+    refused-run-told (omega (arith, c .before .before .before .before .before .before .before .before .before .before .before .before .before .before .before .before .before .before .before .before .before .before .before .before .before .before .before .before .before .before .if1 .left)) (c .before .before .before .before .before .before .before .before .before .before .before .before .before .before .before .before .before .before .before .before .before .before .run .ensures) (c .before .before .before .before .before .before .told .given .1) (c .before .before .tell .ensures) (omega arith) (omega arith)
 
 same-length-9 : tie.Need-same-length-9
 same-length-9 c = search needs
@@ -84,7 +84,7 @@ same-length-16 c = search needs
 
 returns-3 : tie.Need-returns-3
 returns-3 c =
-    ended-run-told (c .before .before .before .before .before .before .before .before .before .before .before .before .before .before .before .before .before .before .before .before .before .before .before .before .before .before .before .before .before .before .if1 .left) (c .before .before .before .before .before .before .before .before .before .before .before .before .before .before .before .before .before .before .before .before .before .before .run .ensures) (c .before .before .before .before .before .before .told2 .given .1) (c .before .before .tell2 .ensures) (omega arith) (omega arith) (omega arith)
+    ended-run-told (omega (arith, c .before .before .before .before .before .before .before .before .before .before .before .before .before .before .before .before .before .before .before .before .before .before .before .before .before .before .before .before .before .before .if1 .left)) (c .before .before .before .before .before .before .before .before .before .before .before .before .before .before .before .before .before .before .before .before .before .before .run .ensures) (c .before .before .before .before .before .before .told2 .given .1) (c .before .before .tell2 .ensures) (omega arith) (omega arith) (omega arith)
 
 pub migladze-run-spec : {M : Type 1} → statement M
 migladze-run-spec =

@@ -7,7 +7,7 @@ use Rattle.export.proofs.migladze_verdict.Statement.{statement}
 use Rattle.export.proofs.migladze_verdict.Tie as tie
 
 returns : tie.Need-returns
-returns c = untold (c .if1 .taken)
+returns c = untold (λ e. omega arith)
 
 verdict-requires : tie.Need-verdict-requires
 verdict-requires c κs = search needs
@@ -44,7 +44,7 @@ same-length-8 c = search needs
 
 returns-2 : tie.Need-returns-2
 returns-2 c =
-    verdict-told (c .before .before .before .before .before .before .before .before .before .before .before .before .before .before .before .before .before .before .before .before .before .before .before .before .before .before .before .if1 .left) (c .before .before .before .before .before .before .before .before .before .before .before .before .before .before .before .before .before .before .before .verdict .ensures) (c .before .before .tell .ensures) (omega arith) (omega arith) (omega arith)
+    verdict-told (omega (arith, c .before .before .before .before .before .before .before .before .before .before .before .before .before .before .before .before .before .before .before .before .before .before .before .before .before .before .before .if1 .left)) (c .before .before .before .before .before .before .before .before .before .before .before .before .before .before .before .before .before .before .before .verdict .ensures) (c .before .before .tell .ensures) (omega arith) (omega arith) (omega arith)
 
 pub migladze-verdict-spec : {M : Type 1} → statement M
 migladze-verdict-spec =
