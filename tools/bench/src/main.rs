@@ -4,72 +4,7 @@
 use std::hint::black_box;
 use std::time::{Duration, Instant};
 
-extern "C" {
-    fn migladze_report(
-        input: *const u8,
-        input_length: usize,
-        rows: *mut u64,
-        rows_length: usize,
-        keys: *mut u64,
-        keys_length: usize,
-        heads: *mut u64,
-        heads_length: usize,
-        arguments: *mut u64,
-        arguments_length: usize,
-        outcomes: *mut u64,
-        outcomes_length: usize,
-        commands: *mut u64,
-        commands_length: usize,
-        steps: *mut u64,
-        steps_length: usize,
-        buffer: *mut u8,
-        buffer_length: usize,
-    ) -> usize;
-}
-
-/// What a caller of the library lends.
-struct Lent {
-    tables: [Vec<u64>; 7],
-    buffer: Vec<u8>,
-}
-
-impl Lent {
-    fn new() -> Self {
-        let lengths = [4096, 256, 1024, 1024, 1024, 32, 512];
-        Lent {
-            tables: lengths.map(|length| vec![0; length]),
-            buffer: vec![0; 19476],
-        }
-    }
-
-    fn report(&mut self, input: &[u8]) -> &[u8] {
-        let [rows, keys, heads, arguments, outcomes, commands, steps] = &mut self.tables;
-        // Each pointer is that of a slice, beside its length.
-        let count = unsafe {
-            migladze_report(
-                input.as_ptr(),
-                input.len(),
-                rows.as_mut_ptr(),
-                rows.len(),
-                keys.as_mut_ptr(),
-                keys.len(),
-                heads.as_mut_ptr(),
-                heads.len(),
-                arguments.as_mut_ptr(),
-                arguments.len(),
-                outcomes.as_mut_ptr(),
-                outcomes.len(),
-                commands.as_mut_ptr(),
-                commands.len(),
-                steps.as_mut_ptr(),
-                steps.len(),
-                self.buffer.as_mut_ptr(),
-                self.buffer.len(),
-            )
-        };
-        &self.buffer[..count]
-    }
-}
+use migladze::Checker;
 
 const POLICY: &str = "01050000000002000002\n";
 const GENERATE: &str = "0200020200000100000000\n";
@@ -141,16 +76,16 @@ fn time(mut work: impl FnMut()) -> Duration {
 }
 
 fn main() {
-    let mut lent = Lent::new();
+    let mut checker = Checker::new();
     println!(
         "{:<40}{:>12}{:>12}{:>8}",
         "input", "library", "second", "ratio"
     );
     for (name, text) in inputs() {
         let input = text.as_bytes();
-        assert_eq!(lent.report(input), second::report(input), "{name}");
+        assert_eq!(checker.report(input), second::report(input), "{name}");
         let library = time(|| {
-            black_box(lent.report(black_box(input)));
+            black_box(checker.report(black_box(input)));
         });
         let plain = time(|| {
             black_box(second::report(black_box(input)));
