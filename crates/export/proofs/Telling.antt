@@ -1,7 +1,7 @@
 -- How an answer that is told in numbers keeps its promise: what the library's entry promised, and the numbers in the slice.
 -- Assumes nothing.
 use Prim.Native.Nat.{ℕ}
-use mathlib.Core.Path.{_≡_, refl, sym, ap, subst, _∙_}
+use mathlib.Core.Path.{_≡_, refl, ap, subst, _∙_}
 use mathlib.Core.List.{List, [], _∷_}
 use lib.ListN.{length}
 use Rattle.model.specs.Tables.{Tables, ReadIs, VerdictIs, RunIs}

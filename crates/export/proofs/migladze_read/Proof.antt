@@ -59,7 +59,10 @@ same-length-8 c = search needs
 
 returns-2 : tie.Need-returns-2
 returns-2 c =
-    refusal-told (omega (arith, c .before .before .before .before .before .before .before .before .before .before .before .before .before .before .before .before .before .before .before .before .before .before .before .before .before .before .before .before .before .before .if1 .left)) (c .before .before .before .before .before .before .before .before .before .before .before .before .before .before .before .before .before .before .before .before .before .before .read .ensures) (c .before .before .before .before .before .before .told .given .1) (c .before .before .tell .ensures) (omega arith) (omega arith)
+    let matched = c .before .before .before .before .before .before in
+    let answered = matched .before .before .before .before .before .before .before .before .before .before .before .before .before .before .before .before in
+    let sized = answered .before .before .before .before .before .before .before .before in
+    refusal-told (omega (arith, sized .if1 .left)) (answered .read .ensures) (matched .told .given .1) (c .before .before .tell .ensures) (omega arith) (omega arith)
 
 same-length-9 : tie.Need-same-length-9
 same-length-9 c = search needs
@@ -87,7 +90,10 @@ same-length-16 c = search needs
 
 returns-3 : tie.Need-returns-3
 returns-3 c =
-    file-told (omega (arith, c .before .before .before .before .before .before .before .before .before .before .before .before .before .before .before .before .before .before .before .before .before .before .before .before .before .before .before .before .before .before .if1 .left)) (c .before .before .before .before .before .before .before .before .before .before .before .before .before .before .before .before .before .before .before .before .before .before .read .ensures) (c .before .before .before .before .before .before .told2 .given .1) (c .before .before .tell2 .ensures) (omega arith) (omega arith) (omega arith) (omega arith)
+    let matched = c .before .before .before .before .before .before in
+    let answered = matched .before .before .before .before .before .before .before .before .before .before .before .before .before .before .before .before in
+    let sized = answered .before .before .before .before .before .before .before .before in
+    file-told (omega (arith, sized .if1 .left)) (answered .read .ensures) (matched .told2 .given .1) (c .before .before .tell2 .ensures) (omega arith) (omega arith) (omega arith) (omega arith)
 
 pub migladze-read-spec : {M : Type 1} → statement M
 migladze-read-spec =

@@ -44,7 +44,9 @@ same-length-8 c = search needs
 
 returns-2 : tie.Need-returns-2
 returns-2 c =
-    verdict-told (omega (arith, c .before .before .before .before .before .before .before .before .before .before .before .before .before .before .before .before .before .before .before .before .before .before .before .before .before .before .before .if1 .left)) (c .before .before .before .before .before .before .before .before .before .before .before .before .before .before .before .before .before .before .before .verdict .ensures) (c .before .before .tell .ensures) (omega arith) (omega arith) (omega arith)
+    let answered = c .before .before .before .before .before .before .before .before .before .before .before .before .before .before .before .before .before .before .before in
+    let sized = answered .before .before .before .before .before .before .before .before in
+    verdict-told (omega (arith, sized .if1 .left)) (answered .verdict .ensures) (c .before .before .tell .ensures) (omega arith) (omega arith) (omega arith)
 
 pub migladze-verdict-spec : {M : Type 1} → statement M
 migladze-verdict-spec =
