@@ -40,12 +40,14 @@ enum {
  * A template is a set of attributes, the sum of their weights: 1 sensitive (S), 2 always sensitive (A), 4 encrypt, 8 decrypt,
  * 16 wrap, 32 unwrap. The types have the codes 0 Un (public), 1 TData, 2 Data, 3 Wrap, 4 Seed, 5 Any.
  * Within a command a value is named by its number: the parameters first, then what each step gives. The ops are
- *   0 return a (the last step, and only the last)    3 store a under template t, which gives a handle
- *   1 get the key of handle a that has at least t     4 encrypt a under b
- *   2 generate a key under template t: its handle     5 decrypt a under b
- * An argument is 8000 + n (hexadecimal) for the public constant n, or the number of an earlier session line, counted from 0.
+ *   0 return a (the last step, and only the last)      3 store a under template t, which gives a handle
+ *   1 get the key of handle a that has at least t      4 encrypt a under b
+ *   2 generate a key under template t: its handle      5 decrypt a under b
+ * An argument is 8000 + n (hexadecimal) for the public constant n, or the number of an earlier session line, counted from 0. A line
+ * that encrypts or decrypts has command 0 and two arguments, the second of them the key.
  *
- * TABLES. All entries are uint64_t; those behind the last that is in use are 0, and bits that are not named are 0.
+ * TABLES. All entries are uint64_t. Those that are not in use are 0, and those in use stand before them (of steps, among the sixteen
+ * of a command). Bits that are not named are 0. How many lines there are is told by migladze_read: the head of a line can be 0.
  *   heads      a session line:  bits 0-7 kind (as above), 8-15 command, 16-23 how many arguments
  *   arguments  a session line:  16 bits each, the first lowest: bit 15 set is a constant in bits 0-14, else an earlier line
  *   commands   a command:       bits 0-7 parameters, 8-15 steps
