@@ -4,14 +4,15 @@
 //! Random bytes would nearly all be refused at the first frame. So the files
 //! are made from scenes that make sense (policies, commands of known use, and
 //! sessions whose values flow from line to line), and some are damaged
-//! afterwards.
+//! afterwards. A part is made field by field without any sense.
 
 mod attack;
 mod big;
 mod damage;
 mod lawful;
-mod random;
+pub mod random;
 mod recipe;
+mod rough;
 mod scene;
 
 use random::Random;
@@ -24,7 +25,8 @@ pub fn file(seed: u64) -> Vec<u8> {
     match random.below(100) {
         0..=44 => lawful::scene(random).text(),
         45..=67 => attack::scene(random).text(),
-        68..=93 => damage::file(random),
+        68..=83 => damage::file(random),
+        84..=93 => rough::file(random),
         _ => big::scene(random).text(),
     }
 }

@@ -5,11 +5,13 @@
 //! a model of the token. This is the second, independent implementation: it is
 //! written from the documents alone so that it can be compared with the first.
 
+pub mod entries;
 pub mod frames;
 pub mod generate;
 pub mod process;
 pub mod report;
 pub mod session;
+pub mod tables;
 pub mod text;
 pub mod token;
 pub mod types;

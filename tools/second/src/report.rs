@@ -1,7 +1,7 @@
 //! The program's whole output for a whole input: one frame for a refused file,
 //! otherwise the verdict, the finished lines and the ending.
 
-use crate::frames::{parse, File, Refusal};
+use crate::frames::{parse, Refusal};
 use crate::session::{run, Outcome, Run, KEYS_LIMIT, ROWS_LIMIT};
 use crate::text;
 use crate::verdict::{verdict, Verdict};
@@ -14,28 +14,29 @@ const END: u8 = 0x83;
 /// Stands where a number of two bytes is missing.
 const NONE: u16 = 0xffff;
 
+/// The session is played whatever the verdict is.
 pub fn report(input: &[u8]) -> Vec<u8> {
-    let mut output = Vec::new();
     match parse(input) {
-        Ok(file) => write_answers(&file, &mut output),
-        Err(refusal) => write_refusal(refusal, &mut output),
+        Ok(file) => of_run(verdict(&file), &run(&file, ROWS_LIMIT, KEYS_LIMIT)),
+        Err(refusal) => of_refusal(refusal),
     }
+}
+
+pub fn of_refusal(refusal: Refusal) -> Vec<u8> {
+    let mut output = Vec::new();
+    let [high, low] = two_bytes(refusal.frame);
+    text::encode(&[REFUSED, refusal.number, high, low], &mut output);
     output
 }
 
-/// The session is played whatever the verdict is.
-fn write_answers(file: &File, output: &mut Vec<u8>) {
-    write_verdict(verdict(file), output);
-    let run = run(file, ROWS_LIMIT, KEYS_LIMIT);
+pub fn of_run(verdict: Verdict, run: &Run) -> Vec<u8> {
+    let mut output = Vec::new();
+    write_verdict(verdict, &mut output);
     for (number, outcome) in run.outcomes.iter().enumerate() {
-        write_outcome(number, outcome, output);
+        write_outcome(number, outcome, &mut output);
     }
-    write_end(&run, output);
-}
-
-fn write_refusal(refusal: Refusal, output: &mut Vec<u8>) {
-    let [high, low] = two_bytes(refusal.frame);
-    text::encode(&[REFUSED, refusal.number, high, low], output);
+    write_end(run, &mut output);
+    output
 }
 
 fn write_verdict(verdict: Verdict, output: &mut Vec<u8>) {

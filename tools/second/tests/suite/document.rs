@@ -5,7 +5,7 @@ use second::report;
 use second::token::Value::{Const, Dec, Enc};
 use second::types::{of_template, Type};
 
-const LISTING: &str = "\
+pub const LISTING: &str = "\
 01050000000002000002
 0200020200000100000000
 0200020200001900000000
@@ -17,7 +17,7 @@ const LISTING: &str = "\
 0300030200020001
 ";
 
-const LISTING_OUTPUT: &str = "\
+pub const LISTING_OUTPUT: &str = "\
 8112000302
 820000000000000100
 820001000002000200

@@ -7,4 +7,5 @@ mod generator;
 mod limits;
 mod readings;
 mod refusals;
+mod tables;
 mod verdicts;

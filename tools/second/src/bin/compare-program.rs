@@ -11,7 +11,7 @@ use second::{generate, report};
 fn main() -> ExitCode {
     let words: Vec<String> = env::args().skip(1).collect();
     let [program, count, first_seed] = words.as_slice() else {
-        eprintln!("usage: compare PROGRAM COUNT FIRST-SEED");
+        eprintln!("usage: compare-program PROGRAM COUNT FIRST-SEED");
         return ExitCode::FAILURE;
     };
     let (Ok(count), Ok(first_seed)) = (count.parse::<u64>(), first_seed.parse::<u64>()) else {
