@@ -7,7 +7,7 @@ use token::perform_step;
 use token::took;
 ghost use mathlib.Core.Path.{_≡_};
 ghost use mathlib.Core.List.{List};
-ghost use Prim.Native.Nat.{ℕ, _≤_, _<_};
+ghost use Prim.Native.Nat.{ℕ, _<_};
 ghost use lib.ListN.{getD};
 ghost use Rattle.model.specs.Step.{Command};
 ghost use Rattle.model.specs.Value.{Value, valueAt};

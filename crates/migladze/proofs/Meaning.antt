@@ -1,10 +1,9 @@
 -- The rows that a run leaves mean one thing: two runs that leave the same numbers there have the same values in the same rows.
 -- Assumes nothing.
 use Prim.Native.Nat.{ℕ}
-use mathlib.Core.Path.{_≡_, sym, ap, _∙_}
+use mathlib.Core.Path.{_≡_, ap, _∙_}
 use mathlib.Core.List.{List}
 use native.Mathlib.Omega.{arith}
-use lib.ListN.{length}
 use Rattle.model.specs.Value.{Value}
 use Rattle.model.specs.Frame.{File}
 use Rattle.model.specs.File.{file}

@@ -1,21 +1,20 @@
 -- What reading has seen to: a file that it takes has commands and lines within the bounds that the code relies on.
 -- Assumes nothing.
 use Prim.Native.Nat.{ℕ, zero, suc, _+_, _-_, _*_, _≤_, _<_}
-use mathlib.Core.Path.{_≡_, refl, sym, subst, _∙_}
-use mathlib.Core.Bool.{Bool, true, false, not, cond, _&&_}
+use mathlib.Core.Path.{_≡_, refl, sym, subst}
+use mathlib.Core.Bool.{Bool, true, false, cond, _&&_}
 use mathlib.Core.List.{List, [], _∷_, _++_}
 use native.Mathlib.Omega.{arith}
-use lib.Dec.{T, eqb, ltb, leb, eqb→eq, ltb→lt, leb→le, lt→ltb, le→leb, nleb→lt, not-T}
+use lib.Dec.{T, eqb, ltb, leb, eqb→eq, ltb→lt, leb→le, lt→ltb, le→leb}
 use borrow.Author.Tests.{ne-eqb}
 use lib.ListN.{length, drop, length-append, length-drop}
 use Rattle.model.specs.Basics.{_else_then_, every}
 use Rattle.model.specs.Step.{Command}
-use Rattle.model.specs.Session.{Arg, constant, ofLine, Line, calls, computes}
+use Rattle.model.specs.Session.{Arg, constant, ofLine, Line}
 use Rattle.model.specs.Text.{TextLine, linesOf, isDigit, digitValue, inPairs, wellWritten, bytesOf, numberFrom}
-use Rattle.model.specs.Frame.{File, Reading, nothingRead, Kind, policyKind, commandKind, lineKind, otherKind, kindOf, byteAt, policyFormed, policyOf, stepsOf, stepFormed, returnsLast, commandOf, commandFormed, namesMade, argOf, argsOf, lineBy, lineOf, computeFormed, lineFormed, lineNames, inPlace, bodyRefusal, frameRefusal, withFrame}
+use Rattle.model.specs.Frame.{File, Reading, nothingRead, Kind, policyKind, commandKind, lineKind, otherKind, kindOf, byteAt, stepsOf, stepFormed, returnsLast, commandOf, commandFormed, namesMade, argOf, argsOf, lineBy, lineOf, computeFormed, lineFormed, lineNames, inPlace, bodyRefusal, frameRefusal, withFrame}
 use Rattle.model.specs.File.{Parsed, refused, file, lineRefusal, afterFrame, unlessRefused, parseFrom, parse}
 use Rattle.model.specs.Tables.{commandRead, argRead, argsOfLine, lineRead, linesRead, hasOperands, WellRead}
-use Rattle.model.specs.declared.Step.{Step}
 use Rattle.model.proofs.Tests.{and-left, and-right, and-both, met}
 
 -- ---- bytes, steps and arguments
