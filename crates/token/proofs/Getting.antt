@@ -2,7 +2,7 @@
 -- Assumes nothing.
 use Prim.Native.Nat.{ℕ, zero, suc, _%_, _<_}
 use mathlib.Core.Path.{_≡_, refl, sym, ap, _∙_, subst}
-use mathlib.Core.Bool.{Bool, true, false, true≢false, cond, _&&_}
+use mathlib.Core.Bool.{Bool, true, false, cond, _&&_}
 use mathlib.Core.List.{List, [], _∷_, map, map-map}
 use native.Mathlib.Omega.{arith}
 use borrow.Author.Tests.{eq-eqb, ne-eqb, ltb-true}
@@ -18,8 +18,8 @@ use Rattle.model.specs.Tables.{keyCode, Rows}
 use Rattle.model.specs.declared.Step.{Step}
 use Rattle.types.proofs.Table.{same-below}
 use Rattle.values.proofs.Index.{index-of-map}
-use Rattle.values.proofs.Present.{same-itself, same-is-equal, present-means-below, value-at-its-row}
-use Rattle.values.proofs.Rows.{row-at}
+use Rattle.values.proofs.Present.{present-means-below}
+use Rattle.values.proofs.Rows.{row-decides}
 use Rattle.keys.specs.Stored.{handleOf, keyRowOf, templateOf, storedOf}
 use Rattle.keys.specs.declared.Found.the-variants.{Key, Missing}
 use Rattle.token.specs.Carried.{countsOf, FewAtoms, Carries, Performs}
@@ -50,15 +50,8 @@ meets-by-six-bits s = same-below (λ m. meets s (m % 64)) (meets s) 256 refl
 
 same-by-row : {vs : List Value} → Rows vs → (x : ℕ) → x < length vs → (w : Value) → present w vs ≡ true
     → eqb x (rowOf w vs) ≡ same w (valueAt vs x)
-same-by-row {vs} R x h w there = go (same w (valueAt vs x)) refl
-  where
-    go : (b : Bool) → same w (valueAt vs x) ≡ b → eqb x (rowOf w vs) ≡ b
-    go true e = eq-eqb _ _ (sym (ap (λ v. rowOf v vs) (same-is-equal w (valueAt vs x) e) ∙ row-at R x h))
-    go false e =
-        ne-eqb _ _
-        (λ f.
-        let is : w ≡ valueAt vs x = sym (value-at-its-row w vs there) ∙ ap (valueAt vs) (sym f) in
-        true≢false (sym (same-itself w) ∙ ap (same w) is ∙ e))
+same-by-row {vs} R x h w there =
+    row-decides R x h w there (eqb x (rowOf w vs)) (λ e. eq-eqb _ _ (sym e)) (λ d. ne-eqb _ _ (λ e. d (sym e)))
 
 take-of-map : {A B : Type 0} (f : A → B) (n : ℕ) (l : List A) → take n (map f l) ≡ map f (take n l)
 take-of-map f zero l = refl

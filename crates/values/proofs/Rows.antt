@@ -1,8 +1,8 @@
 -- Laws on the rows that a run can make: of those before them, with one more, and of their parts.
 -- Assumes nothing.
 use Prim.Native.Nat.{ℕ, _≤_, _<_}
-use mathlib.Core.Path.{_≡_, sym, _∙_, subst}
-use mathlib.Core.Bool.{true, false}
+use mathlib.Core.Path.{_≡_, refl, sym, ap, _∙_, subst}
+use mathlib.Core.Bool.{Bool, true, false, true≢false}
 use mathlib.Core.List.{List, [], _∷_, _++_}
 use native.Mathlib.Omega.{arith}
 use native.Mathlib.Decide.{decLt}
@@ -11,7 +11,7 @@ use lib.Seq.{getD-at}
 use Rattle.model.specs.Value.{Value, const, fresh, enc, dec, same, rowOf, present, valueAt}
 use Rattle.model.specs.Tables.{PartsBelow, Rows}
 use Rattle.values.proofs.Index.{index-within-first}
-use Rattle.values.proofs.Present.{below-means-present, row-kept, row-added}
+use Rattle.values.proofs.Present.{same-itself, same-is-equal, below-means-present, value-at-its-row, row-kept, row-added}
 
 -- parts that are below i are below what is above it
 parts-below-more : (vs : List Value) (i j : ℕ) (v : Value) → i ≤ j → PartsBelow vs i v → PartsBelow vs j v
@@ -50,6 +50,19 @@ module _ {vs : List Value} (R : Rows vs) (i : ℕ) (h : i < length vs) where
 
   pub present-at : present (valueAt vs i) vs ≡ true
   present-at = below-means-present (valueAt vs i) vs (omega (arith, row-at))
+
+  -- a value is the one in row i exactly when its row is i, whichever way round a test asks for that
+  pub row-decides : (w : Value) → present w vs ≡ true → (q : Bool) → (rowOf w vs ≡ i → q ≡ true) → ((rowOf w vs ≡ i → ⊥) → q ≡ false)
+      → q ≡ same w (valueAt vs i)
+  row-decides w there q here other = go (same w (valueAt vs i)) refl
+    where
+      go : (b : Bool) → same w (valueAt vs i) ≡ b → q ≡ b
+      go true e = here (ap (λ v. rowOf v vs) (same-is-equal w (valueAt vs i) e) ∙ row-at)
+      go false e =
+          other
+          (λ f.
+          let is : w ≡ valueAt vs i = sym (value-at-its-row w vs there) ∙ ap (valueAt vs) f in
+          true≢false (sym (same-itself w) ∙ ap (same w) is ∙ e))
 
   pub parts-at : PartsBelow vs (length vs) (valueAt vs i)
   parts-at = parts-below-more vs i (length vs) (valueAt vs i) (omega arith) (R .after-parts i h)

@@ -2,7 +2,7 @@
 -- Assumes nothing.
 use Prim.Native.Nat.{ℕ, _<_}
 use mathlib.Core.Path.{_≡_, refl, sym, ap, ap₂, _∙_}
-use mathlib.Core.Bool.{Bool, true, false, cond, true≢false}
+use mathlib.Core.Bool.{Bool, true, false, cond}
 use mathlib.Core.List.{List}
 use native.Mathlib.Omega.{arith}
 use native.Mathlib.Decide.{decLt}
@@ -20,8 +20,8 @@ use Rattle.values.specs.declared.Undone.{Undone}
 use Rattle.values.specs.declared.Undone.the-variants.{To, Not}
 use Rattle.values.specs.declared.Interned.{Interned}
 use Rattle.values.specs.declared.Interned.the-variants.{Found}
-use Rattle.values.proofs.Present.{same-itself, same-is-equal, below-means-present, value-at-its-row}
-use Rattle.values.proofs.Rows.{row-at, parts-at}
+use Rattle.values.proofs.Present.{below-means-present}
+use Rattle.values.proofs.Rows.{row-at, row-decides, parts-at}
 use Rattle.values.proofs.Codes.{asRow, number-found}
 use Rattle.values.proofs.Held.{first-numbers, row-read, holds-one-more}
 
@@ -102,15 +102,8 @@ module _ {t : List ℕ} {vs : List Value} {n : ℕ} (H : Holds t vs) (count : n 
 
     -- a value is the key in row b exactly when its row is b
     same-by-row : (l : Value) → rowOf l vs < length vs → eqb (rowOf l vs) b ≡ same l (valueAt vs b)
-    same-by-row l h = go (same l (valueAt vs b)) refl
-      where
-        go : (c : Bool) → same l (valueAt vs b) ≡ c → eqb (rowOf l vs) b ≡ c
-        go true e = eq-eqb _ _ (ap (λ w. rowOf w vs) (same-is-equal l (valueAt vs b) e) ∙ row-of-second)
-        go false e =
-            ne-eqb _ _
-            (λ c.
-            let key : l ≡ valueAt vs b = sym (value-at-its-row l vs (below-means-present l vs h)) ∙ ap (valueAt vs) c in
-            true≢false (sym (same-itself l) ∙ ap (same l) key ∙ e))
+    same-by-row l h =
+        row-decides (H .rows) b (omega arith) l (below-means-present l vs h) (eqb (rowOf l vs) b) (λ e. eq-eqb _ _ e) (λ d. ne-eqb _ _ d)
 
     -- what undoing the number of w says of decrypting w under row b
     abbrev Tells : Value → Undone → Type 0
