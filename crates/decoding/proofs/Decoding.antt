@@ -10,7 +10,7 @@ use lib.Dec.{T, ltb, leb, ltb→lt, leb→le, eqb→eq}
 use lib.ListN.{getD, length, take, drop, length-append, length-replicate, length-map, List·getD-append, List·getD-map}
 use lib.Seq.{take-append-seam, take-at, drop-at, drop-drop, getD-take, getD-drop}
 use Rattle.model.specs.Basics.{every, upFrom}
-use Rattle.model.specs.Step.{Op, Return, Get, Generate, Store, Compute, Unknown, Use, nothing, value, attributes, fieldsOf, opOf, Command}
+use Rattle.model.specs.Step.{Op, Return, Get, Generate, Store, Compute, Unknown, Encrypt, Decrypt, Derive, Use, nothing, value, attributes, label, fieldsOf, ops, opOf, Command}
 use Rattle.model.specs.Token.{commandAt}
 use Rattle.model.specs.Frame.{fieldFormed, stepFormed, returnsLast, fieldNames, stepNames, namesMade}
 use Rattle.model.specs.Tables.{zeros, padded, stepCode, commandCode, stepCodes, commandRead}
@@ -21,7 +21,7 @@ use Rattle.decoding.specs.Decoded.{stepFrom, commandFrom}
 -- ---- a step
 
 pub record Small (s : Step) : Type 0 where
-  pub op-small : s .op < 6
+  pub op-small : s .op < 64
   pub a-small : s .a < 64
   pub b-small : s .b < 64
   pub t-small : s .t < 64
@@ -47,12 +47,13 @@ module _ (s : Step) (small : Small s) where
   unfolding stepFrom
   step-back = rw (op-back, a-back, b-back, t-back)
 
--- The steps that reading takes are small: a field is 0 where its op does not use it, names one of at most twenty values, or is a set of attributes.
+-- The steps that reading takes are small: a field is 0 where its op does not use it, names one of at most twenty values, or is a set of attributes or a label.
 
 used-small : (u : Use) (n x : ℕ) → n ≤ 20 → T (fieldFormed u x) → T (fieldNames n u x) → x < 64
 used-small nothing n x few formed named = let none = eqb→eq x 0 formed in omega arith
 used-small value n x few formed named = let made = ltb→lt x n named in omega arith
 used-small attributes n x few formed named = ltb→lt x 64 formed
+used-small label n x few formed named = let low = ltb→lt x 2 formed in omega arith
 
 -- no op names a value by its last field
 last-small : (o : Op) (x : ℕ) → T (fieldFormed (fieldsOf o .t) x) → x < 64
@@ -60,13 +61,16 @@ last-small Return x formed = let none = eqb→eq x 0 formed in omega arith
 last-small Get x formed = ltb→lt x 64 formed
 last-small Generate x formed = ltb→lt x 64 formed
 last-small Store x formed = ltb→lt x 64 formed
-last-small (Compute o) x formed = let none = eqb→eq x 0 formed in omega arith
+last-small (Compute Encrypt) x formed = let none = eqb→eq x 0 formed in omega arith
+last-small (Compute Decrypt) x formed = let none = eqb→eq x 0 formed in omega arith
+last-small (Compute (Derive l)) x formed = let low = ltb→lt x 2 formed in omega arith
 last-small Unknown x formed = let none = eqb→eq x 0 formed in omega arith
 
 pub step-small : (n : ℕ) (s : Step) → n ≤ 20 → T (stepFormed s) → T (stepNames n s) → Small s
 step-small n s few formed named =
     let uses = fieldsOf (opOf s) in
-    let known : Bool = ltb (s .op) 6 in
+    let many = length (ops (s .t)) in
+    let known : Bool = ltb (s .op) many in
     let a-formed = fieldFormed (uses .a) (s .a) in
     let b-formed = fieldFormed (uses .b) (s .b) in
     let t-formed = fieldFormed (uses .t) (s .t) in
@@ -75,7 +79,7 @@ step-small n s few formed named =
     let without-t = and-left (known && a-formed && b-formed) t-formed formed in
     let without-b = and-left (known && a-formed) b-formed without-t in
     record {
-      op-small = ltb→lt (s .op) 6 (and-left known a-formed without-b);
+      op-small = omega (arith, ltb→lt (s .op) many (and-left known a-formed without-b));
       a-small = used-small (uses .a) n (s .a) few (and-right known a-formed without-b) (and-left a-named b-named named);
       b-small = used-small (uses .b) n (s .b) few (and-right (known && a-formed) b-formed without-t) (and-right a-named b-named named);
       t-small = last-small (opOf s) (s .t) (and-right (known && a-formed && b-formed) t-formed formed);

@@ -37,8 +37,8 @@ module _ (f : List ℕ) (long : 68 ≤ length f) where
   line-too-long : lineFormed f ≡ false
   line-too-long =
       elim (decLt 4 (byteAt f 3)) [
-        | yes many ↦ rw (lt-leb (byteAt f 3) 4 many, and-false (leb (byteAt f 1) 2))
-        | no few ↦ rw (ne-eqb (length f) (4 + 2 * byteAt f 3) (λ q. omega arith), and-false (leb (byteAt f 1) 2 && leb (byteAt f 3) 4))
+        | yes many ↦ rw (lt-leb (byteAt f 3) 4 many, and-false (leb (byteAt f 1) 3))
+        | no few ↦ rw (ne-eqb (length f) (4 + 2 * byteAt f 3) (λ q. omega arith), and-false (leb (byteAt f 1) 3 && leb (byteAt f 3) 4))
       ]
 
   body-too-long : (φ : File) (kind : Kind) → bodyRefusal φ kind f ≡ tooLong kind

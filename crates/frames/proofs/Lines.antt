@@ -13,7 +13,7 @@ use Rattle.model.specs.Basics.{_else_then_, every}
 use Rattle.model.specs.Step.{Command}
 use Rattle.model.specs.Token.{commandAt}
 use Rattle.model.specs.Session.{Arg}
-use Rattle.model.specs.Frame.{Reading, byteAt, argsOf, argNames, lineBy, lineOf, lineFormed, lineNames, lineKind, bodyRefusal}
+use Rattle.model.specs.Frame.{Reading, byteAt, argsOf, argNames, lineBy, lineOf, headFits, lineFormed, lineNames, lineKind, bodyRefusal}
 use Rattle.model.specs.Tables.{Held, padded, commandCode, headCode, argsCode, argsOfLine}
 use Rattle.frames.specs.Turn.{turnOf, Counted}
 use Rattle.frames.specs.Parts.{lineNamed, LineStored, Takes}
@@ -25,54 +25,50 @@ use Rattle.frames.proofs.Arguments.{arguments-count}
 
 -- ---- the form of a line
 
+pub fits-above : (kind number count : ℕ) → 3 ≤ kind → (ltb number 2 && eqb count 1) ≡ headFits kind number count
+fits-above zero number count h = absurd (omega arith)
+fits-above (suc zero) number count h = absurd (omega arith)
+fits-above (suc (suc zero)) number count h = absurd (omega arith)
+fits-above (suc (suc (suc kind))) number count h = refl
+
 module _ (f : List ℕ) where
   pub line-short : length f < 4 → false ≡ lineFormed f
   line-short h =
       let e : byteAt f 3 ≡ 0 = List·getD-eq-default f 0 {n = 3} (omega arith) in
-      rw (e, ne-eqb (length f) 4 (λ q. omega arith), and-false (leb (byteAt f 1) 2 && leb 0 4))
+      rw (e, ne-eqb (length f) 4 (λ q. omega arith), and-false (leb (byteAt f 1) 3 && leb 0 4))
 
-  pub other-kind : 2 < byteAt f 1 → false ≡ lineFormed f
-  other-kind h = rw (lt-leb (byteAt f 1) 2 h)
+  pub other-kind : 3 < byteAt f 1 → false ≡ lineFormed f
+  other-kind h = rw (lt-leb (byteAt f 1) 3 h)
 
-  module _ (kind : byteAt f 1 ≤ 2) where
+  module _ (kind : byteAt f 1 ≤ 3) where
     pub many-arguments : 4 < byteAt f 3 → false ≡ lineFormed f
-    many-arguments h = rw (le-leb (byteAt f 1) 2 kind, lt-leb (byteAt f 3) 4 h)
+    many-arguments h = rw (le-leb (byteAt f 1) 3 kind, lt-leb (byteAt f 3) 4 h)
 
     module _ (few : byteAt f 3 ≤ 4) where
       pub other-length : (length f ≡ 4 + 2 * byteAt f 3 → ⊥) → false ≡ lineFormed f
-      other-length h = rw (le-leb (byteAt f 1) 2 kind, le-leb (byteAt f 3) 4 few, ne-eqb (length f) (4 + 2 * byteAt f 3) h)
+      other-length h = rw (le-leb (byteAt f 1) 3 kind, le-leb (byteAt f 3) 4 few, ne-eqb (length f) (4 + 2 * byteAt f 3) h)
 
-      module _ (whole : length f ≡ 4 + 2 * byteAt f 3) where
-        by-kind : lineFormed f ≡ cond (eqb (byteAt f 1) 0) true (eqb (byteAt f 2) 0 && eqb (byteAt f 3) 2)
-        by-kind = rw (le-leb (byteAt f 1) 2 kind, le-leb (byteAt f 3) 4 few, eq-eqb (length f) (4 + 2 * byteAt f 3) whole)
-
-        pub a-call : byteAt f 1 ≡ 0 → true ≡ lineFormed f
-        a-call h = sym (by-kind ∙ rw (eq-eqb (byteAt f 1) 0 h))
-
-        module _ (computes : byteAt f 1 ≡ 0 → ⊥) where
-          pub command-given : (byteAt f 2 ≡ 0 → ⊥) → false ≡ lineFormed f
-          command-given h = sym (by-kind ∙ rw (ne-eqb (byteAt f 1) 0 computes, ne-eqb (byteAt f 2) 0 h))
-
-          pub two-decide : byteAt f 2 ≡ 0 → eqb (byteAt f 3) 2 ≡ lineFormed f
-          two-decide h = sym (by-kind ∙ rw (ne-eqb (byteAt f 1) 0 computes, eq-eqb (byteAt f 2) 0 h))
+      pub head-decides : length f ≡ 4 + 2 * byteAt f 3 → (b : Bool) → b ≡ headFits (byteAt f 1) (byteAt f 2) (byteAt f 3) → b ≡ lineFormed f
+      head-decides whole b is =
+          is ∙ rw (le-leb (byteAt f 1) 3 kind, le-leb (byteAt f 3) 4 few, eq-eqb (length f) (4 + 2 * byteAt f 3) whole)
 
 record LineTells (f : List ℕ) : Type 0 where
-  pub kind : byteAt f 1 ≤ 2
+  pub kind : byteAt f 1 ≤ 3
   pub few : byteAt f 3 ≤ 4
   pub whole : length f ≡ 4 + 2 * byteAt f 3
-  pub computed : cond (eqb (byteAt f 1) 0) true (eqb (byteAt f 2) 0 && eqb (byteAt f 3) 2) ≡ true
+  pub fits : headFits (byteAt f 1) (byteAt f 2) (byteAt f 3) ≡ true
 
 line-tells : (f : List ℕ) (b : Bool) → b ≡ lineFormed f → not b ≡ false → LineTells f
 line-tells f b is good =
-    let last = cond (eqb (byteAt f 1) 0) true (eqb (byteAt f 2) 0 && eqb (byteAt f 3) 2) in
-    let three = both (leb (byteAt f 1) 2 && leb (byteAt f 3) 4 && eqb (length f) (4 + 2 * byteAt f 3)) last (sym is ∙ not-false b good) in
-    let two = both (leb (byteAt f 1) 2 && leb (byteAt f 3) 4) (eqb (length f) (4 + 2 * byteAt f 3)) (three .0) in
-    let one = both (leb (byteAt f 1) 2) (leb (byteAt f 3) 4) (two .0) in
+    let last = headFits (byteAt f 1) (byteAt f 2) (byteAt f 3) in
+    let three = both (leb (byteAt f 1) 3 && leb (byteAt f 3) 4 && eqb (length f) (4 + 2 * byteAt f 3)) last (sym is ∙ not-false b good) in
+    let two = both (leb (byteAt f 1) 3 && leb (byteAt f 3) 4) (eqb (length f) (4 + 2 * byteAt f 3)) (three .0) in
+    let one = both (leb (byteAt f 1) 3) (leb (byteAt f 3) 4) (two .0) in
     record {
-      kind = leb-true (byteAt f 1) 2 (one .0);
+      kind = leb-true (byteAt f 1) 3 (one .0);
       few = leb-true (byteAt f 3) 4 (one .1);
       whole = eqb-true (length f) (4 + 2 * byteAt f 3) (two .1);
-      computed = three .1;
+      fits = three .1;
     }
 
 pub line-whole : (f : List ℕ) (b : Bool) → b ≡ lineFormed f → not b ≡ false → length f ≡ 4 + 2 * byteAt f 3
@@ -118,24 +114,27 @@ module _ (cs : List Command) (commands : List ℕ) (held : commands ≡ padded 3
       ≡ lineNames cs m (lineBy kind number args)
   named-by zero number m args = rw (called number (length args))
   named-by (suc zero) number m args = refl
-  named-by (suc (suc kind)) number m args = rw (eqb·suc-zero (suc kind))
+  named-by (suc (suc zero)) number m args = refl
+  named-by (suc (suc (suc kind))) number m args = rw (eqb·suc-zero (suc (suc kind)))
 
 -- the head's code is the model's
 no-number : (number count : ℕ) → (eqb number 0 && eqb count 2) ≡ true → number ≡ 0
-no-number number count computed = eqb-true number 0 (both (eqb number 0) (eqb count 2) computed .0)
+no-number number count fits = eqb-true number 0 (both (eqb number 0) (eqb count 2) fits .0)
 
-head-by : (kind number : ℕ) (args : List Arg) → kind ≤ 2 → cond (eqb kind 0) true (eqb number 0 && eqb (length args) 2) ≡ true
+head-by : (kind number : ℕ) (args : List Arg) → kind ≤ 3 → headFits kind number (length args) ≡ true
     → kind + 256 * number + 65536 * length args ≡ headCode (lineBy kind number args)
 unfolding headCode
-head-by zero number args known computed = omega arith
-head-by (suc zero) number args known computed = omega (arith, no-number number (length args) computed)
-head-by (suc (suc zero)) number args known computed = omega (arith, no-number number (length args) computed)
-head-by (suc (suc (suc kind))) number args known computed = absurd (omega arith)
+head-by zero number args known fits = omega arith
+head-by (suc zero) number args known fits = omega (arith, no-number number (length args) fits)
+head-by (suc (suc zero)) number args known fits = omega (arith, no-number number (length args) fits)
+head-by (suc (suc (suc zero))) number args known fits = omega arith
+head-by (suc (suc (suc (suc kind)))) number args known fits = absurd (omega arith)
 
 arguments-by : (kind number : ℕ) (args : List Arg) → argsOfLine (lineBy kind number args) ≡ args
 arguments-by zero number args = refl
 arguments-by (suc zero) number args = refl
-arguments-by (suc (suc kind)) number args = refl
+arguments-by (suc (suc zero)) number args = refl
+arguments-by (suc (suc (suc kind))) number args = refl
 
 -- ---- storing
 
@@ -182,7 +181,7 @@ module _ (f : List ℕ) (kind : byteAt f 0 ≡ 3) (b : Bool) (is-b : b ≡ lineF
         let ls = c .file .lines in
         let room = room-left true q m 1024 x is-x none in
         let head : byteAt f 1 + 256 * byteAt f 2 + 65536 * byteAt f 3 ≡ headCode (lineOf f) =
-        rw (← count) (head-by (byteAt f 1) (byteAt f 2) args (tells .kind) (rw count (tells .computed))) in
+        rw (← count) (head-by (byteAt f 1) (byteAt f 2) args (tells .kind) (rw count (tells .fits))) in
         let code : argsCode args ≡ argsCode (argsOfLine (lineOf f)) = ap argsCode (sym (arguments-by (byteAt f 1) (byteAt f 2) args)) in
         taken f (is-line f kind) (in-place f (is-line f kind) counted (le-leb 1 place here) ∙ refusal-is counted held ∙ none) refl
         (record {

@@ -10,7 +10,7 @@ use lib.ListN.{length, getD, take, drop, set, length-set, length-map, List·getD
 use lib.Seq.{length-take-le, take-all}
 use borrow.Author.Tests.{eq-eqb, ne-eqb, lt-ltb, le-ltb, lt-leb, le-leb, not-true, not-false}
 use Rattle.model.specs.Basics.{every}
-use Rattle.model.specs.Step.{opOf, fieldsOf}
+use Rattle.model.specs.Step.{ops, Unknown, fieldsOf}
 use Rattle.model.specs.Frame.{byteAt, stepsOf, fieldFormed, fieldNames, stepFormed, stepNames, returnsLast, namesMade}
 use Rattle.model.specs.Tables.{stepCode}
 use Rattle.model.specs.declared.Step.{Step}
@@ -129,11 +129,11 @@ pub value-named : (n x : ℕ) (u : Use) → u ≡ Value → ltb x n ≡ fieldNam
 value-named n x u is = rw is
 
 -- ---- the form of a step and what it names, by what its op has in the fields
-module _ (s : Step) (fields : Fields) (are : fieldsMeant fields ≡ fieldsOf (opOf s)) where
-  module _ (known : s .op ≤ 5) where
+module _ (s : Step) (fields : Fields) (are : (t : ℕ) → fieldsMeant fields ≡ fieldsOf (getD (ops t) (s .op) Unknown)) where
+  module _ (known : s .op ≤ 6) where
     formed-by-fields : stepFormed s
         ≡ (fieldFormed (meant (fields .0)) (s .a) && fieldFormed (meant (fields .1)) (s .b) && fieldFormed (meant (fields .2)) (s .t))
-    formed-by-fields = rw (lt-ltb (s .op) 6 (omega arith), ← are)
+    formed-by-fields = rw (lt-ltb (s .op) 7 (omega arith), ← are (s .t))
 
     module _ (x : Bool) (is-x : x ≡ fieldFormed (meant (fields .0)) (s .a)) where
       pub a-unformed : not x ≡ true → false ≡ stepFormed s
@@ -148,13 +148,13 @@ module _ (s : Step) (fields : Fields) (are : fieldsMeant fields ≡ fieldsOf (op
 
   module _ (n : ℕ) (x : Bool) (is-x : x ≡ fieldNames n (meant (fields .0)) (s .a)) where
     pub a-unnamed : not x ≡ true → false ≡ stepNames n s
-    a-unnamed h = rw (← are, ← is-x, not-true x h)
+    a-unnamed h = rw (← are (s .t), ← is-x, not-true x h)
 
     pub b-decides : not x ≡ false → (y : Bool) → y ≡ fieldNames n (meant (fields .1)) (s .b) → y ≡ stepNames n s
-    b-decides h y is = is ∙ rw (← are, ← is-x, not-false x h)
+    b-decides h y is = is ∙ rw (← are (s .t), ← is-x, not-false x h)
 
-pub unknown-op : (s : Step) → 5 < s .op → false ≡ stepFormed s
-unknown-op s h = rw (le-ltb (s .op) 6 h)
+pub unknown-op : (s : Step) → 6 < s .op → false ≡ stepFormed s
+unknown-op s h = rw (le-ltb (s .op) 7 h)
 
 -- ---- the loops over the first n steps
 

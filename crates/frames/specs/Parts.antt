@@ -15,7 +15,7 @@ use Rattle.frames.specs.Turn.{Counted, TurnIs}
 use Rattle.frames.specs.declared.Turn.{Turn}
 use Rattle.frames.specs.declared.command.Command.{Command}
 use Rattle.frames.specs.declared.step.Use.{Use}
-use Rattle.frames.specs.declared.step.Use.the-variants.{Nothing, Value, Attributes}
+use Rattle.frames.specs.declared.step.Use.the-variants.{Nothing, Value, Attributes, Label}
 use Rattle.frames.specs.declared.step.Fields.{Fields}
 
 -- a number and how large it can be
@@ -44,6 +44,7 @@ abbrev pub meant : Use → model.Use
 meant Nothing = model.nothing
 meant Value = model.value
 meant Attributes = model.attributes
+meant Label = model.label
 
 abbrev pub fieldsMeant : Fields → model.Fields
 fieldsMeant u = record { a = meant (u .0); b = meant (u .1); t = meant (u .2) }

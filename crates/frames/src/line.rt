@@ -6,7 +6,7 @@ ghost use Prim.Native.Nat.{ℕ, _+_, _*_, _%_, _≤_, _<_};
 ghost use lib.Dec.{ltb, eqb};
 ghost use lib.ListN.{length, drop, getD};
 ghost use Rattle.model.specs.Basics.{every};
-ghost use Rattle.model.specs.Frame.{byteAt, argOf, argsOf, argNames, lineFormed};
+ghost use Rattle.model.specs.Frame.{byteAt, argOf, argsOf, argNames, headFits, lineFormed};
 ghost use Rattle.model.specs.Tables.{argsCode};
 ghost use Rattle.frames.specs.Parts.{ArgumentIs, lineNamed, LineStored, Takes};
 use crate::Turn;
@@ -14,13 +14,25 @@ use crate::lowest;
 use crate::number;
 use crate::wide;
 
+// Whether the command's place and the argument count are as the kind has them.
+fn head_fits(kind: u8, command: u8, count: u8) -> bool
+    ensures { λ r. ⌜ r ≡ headFits kind command count ⌝ }
+{
+    match kind {
+        0 => true,
+        1 => (command == 0) & (count == 2),
+        2 => (command == 0) & (count == 2),
+        _ => (command < 2) & (count == 1),
+    }
+}
+
 fn line_formed(f: &[u8]) -> bool
     ensures { λ r. ⌜ r ≡ lineFormed (now (f .entry)) ⌝ }
 {
     if f.len() < 4 {
         return false;
     }
-    if f[1] > 2 {
+    if f[1] > 3 {
         return false;
     }
     if f[3] > 4 {
@@ -30,13 +42,7 @@ fn line_formed(f: &[u8]) -> bool
     if f.len() != 4 + 2 * k {
         return false;
     }
-    if f[1] == 0 {
-        return true;
-    }
-    if f[2] != 0 {
-        return false;
-    }
-    f[3] == 2
+    head_fits(f[1], f[2], f[3])
 }
 
 // Argument i of a session line, as it stands in the frame.

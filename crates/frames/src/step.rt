@@ -1,6 +1,6 @@
 // One step of a command: what its fields hold, whether they are well formed and name values that are there, and its number in the table.
 ghost use mathlib.Core.Path.{_≡_};
-ghost use Prim.Native.Nat.{_+_, _*_, _≤_, _<_};
+ghost use Prim.Native.Nat.{ℕ, _+_, _*_, _≤_, _<_};
 ghost use lib.ListN.{length, getD};
 ghost use Rattle.model.specs.Step.{ops, Unknown, fieldsOf};
 ghost use Rattle.model.specs.Frame.{fieldFormed, fieldNames, stepFormed, stepNames};
@@ -14,6 +14,7 @@ enum Use {
     Nothing,
     Value,
     Attributes,
+    Label,
 }
 
 // What the fields a, b and t of a step hold.
@@ -32,7 +33,7 @@ pub fn step_at(part: &[u8], at: usize) -> Step
 }
 
 fn fields_of(op: u8) -> Fields
-    ensures { λ r. ⌜ fieldsMeant r ≡ fieldsOf (getD ops op Unknown) ⌝ }
+    ensures { λ r. ⌜ ((t : ℕ) → fieldsMeant r ≡ fieldsOf (getD (ops t) op Unknown)) ⌝ }
 {
     match op {
         0 => Fields(Use::Value, Use::Nothing, Use::Nothing),
@@ -41,6 +42,7 @@ fn fields_of(op: u8) -> Fields
         3 => Fields(Use::Value, Use::Nothing, Use::Attributes),
         4 => Fields(Use::Value, Use::Value, Use::Nothing),
         5 => Fields(Use::Value, Use::Value, Use::Nothing),
+        6 => Fields(Use::Nothing, Use::Value, Use::Label),
         _ => Fields(Use::Nothing, Use::Nothing, Use::Nothing),
     }
 }
@@ -52,6 +54,7 @@ fn field_formed(u: Use, x: u8) -> bool
         Use::Nothing => x == 0,
         Use::Value => true,
         Use::Attributes => x < 64,
+        Use::Label => x < 2,
     }
 }
 
@@ -62,6 +65,7 @@ fn field_names(n: usize, u: Use, x: u8) -> bool
         Use::Nothing => true,
         Use::Value => (x as usize) < n,
         Use::Attributes => true,
+        Use::Label => true,
     }
 }
 
@@ -69,7 +73,7 @@ pub fn step_formed(s: Step) -> bool
     ensures { λ r. ⌜ r ≡ stepFormed s ⌝ }
 {
     let op = s.op;
-    if op > 5 {
+    if op > 6 {
         return false;
     }
     let fields = fields_of(op);

@@ -9,7 +9,7 @@ use types.Run.{OneOf}
 use denote.Enum.Declared.{tagOf}
 use lib.Dec.{T, ltb→lt}
 use lib.ListN.{length, getD, set, length-append, length-set}
-use Rattle.model.specs.Step.{Op, Return, Get, Generate, Store, Compute, Unknown, opOf, Use, nothing, value, attributes, fieldsOf}
+use Rattle.model.specs.Step.{Op, Return, Get, Generate, Store, Compute, Unknown, Encrypt, Decrypt, Derive, opOf, Use, nothing, value, attributes, label, fieldsOf}
 use Rattle.model.specs.Value.{Value, valueAt, compute, operands}
 use Rattle.model.specs.Token.{State, Room, atMost, Out, ended, andThen, appear, get, store, perform, runSteps}
 use Rattle.model.specs.Frame.{fieldNames, stepNames, namesMade}
@@ -31,6 +31,7 @@ abbrev SameWhereUsed : Use → Value → Value → Type 0
 SameWhereUsed nothing v w = Unit {0}
 SameWhereUsed value v w = v ≡ w
 SameWhereUsed attributes v w = Unit {0}
+SameWhereUsed label v w = Unit {0}
 
 performs-by-what-it-uses : (ρ : Room) (o : Op) (s : Step) (v v′ w w′ : Value) (σ : State) → SameWhereUsed (fieldsOf o .a) v v′
     → SameWhereUsed (fieldsOf o .b) w w′ → perform ρ o s v w σ ≡ perform ρ o s v′ w′ σ
@@ -38,7 +39,9 @@ performs-by-what-it-uses ρ Return s v v′ w w′ σ e f = ap (λ x. ended x σ
 performs-by-what-it-uses ρ Get s v v′ w w′ σ e f = ap (λ x. get ρ s x σ) e
 performs-by-what-it-uses ρ Generate s v v′ w w′ σ e f = refl
 performs-by-what-it-uses ρ Store s v v′ w w′ σ e f = ap (λ x. store ρ x (s .t) σ) e
-performs-by-what-it-uses ρ (Compute o) s v v′ w w′ σ e f = ap₂ (λ x y. appear ρ (compute o (operands o x y)) σ) e f
+performs-by-what-it-uses ρ (Compute Encrypt) s v v′ w w′ σ e f = ap₂ (λ x y. appear ρ (compute Encrypt (operands Encrypt x y)) σ) e f
+performs-by-what-it-uses ρ (Compute Decrypt) s v v′ w w′ σ e f = ap₂ (λ x y. appear ρ (compute Decrypt (operands Decrypt x y)) σ) e f
+performs-by-what-it-uses ρ (Compute (Derive l)) s v v′ w w′ σ e f = ap (λ y. appear ρ (compute (Derive l) (operands (Derive l) v y)) σ) f
 performs-by-what-it-uses ρ Unknown s v v′ w w′ σ e f = refl
 
 module _ {rows vs : List Value} {values : List ℕ} (H : Valued rows vs values) (x : ℕ) where
@@ -46,11 +49,13 @@ module _ {rows vs : List Value} {values : List ℕ} (H : Valued rows vs values) 
   used-has-row nothing named count = tt
   used-has-row value named count = omega (arith, H .has-row x (ltb→lt x (length vs) named))
   used-has-row attributes named count = tt
+  used-has-row label named count = tt
 
   used-is-same : (u : Use) → T (fieldNames (length vs) u x) → SameWhereUsed u (valueAt rows (getD values x 0)) (valueAt vs x)
   used-is-same nothing named = tt
   used-is-same value named = H .is x (ltb→lt x (length vs) named)
   used-is-same attributes named = tt
+  used-is-same label named = tt
 
 -- ---- the next step
 

@@ -2,7 +2,7 @@
 -- Assumes nothing.
 use Prim.Native.Nat.{ℕ, _+_, _-_, _*_, _/_, _%_, _≤_, _<_, min}
 use mathlib.Core.Path.{_≡_, refl, sym, ap, ap₂, subst, _∙_}
-use mathlib.Core.Bool.{Bool, _&&_}
+use mathlib.Core.Bool.{Bool, true, false, cond, _&&_}
 use mathlib.Core.List.{List, [], map}
 use native.Mathlib.Omega.{arith}
 use borrow.Author.Tests.{eq-eqb}
@@ -10,12 +10,12 @@ use lib.Dec.{T, eqb, ltb, leb, eqb→eq, ltb→lt, leb→le}
 use lib.ListN.{length, getD, take, drop, length-take, length-drop, length-map, List·getD-map}
 use lib.Seq.{getD-take}
 use Rattle.model.specs.Basics.{every}
-use Rattle.model.specs.Step.{Encrypt, Decrypt, Command}
+use Rattle.model.specs.Step.{Operation, Encrypt, Decrypt, Derive, Compute, Unknown, ops, opOf, Command}
 use Rattle.model.specs.Value.{Value, compute, valueAt}
 use Rattle.model.specs.Token.{State, Room, atMost, Out, ended, andThen, appear, commandAt, call, runSteps}
 use Rattle.model.specs.Session.{Arg, Line, calls, computes, Finished, withArguments, runLine}
 use Rattle.model.specs.Frame.{argNames, lineNames, namesMade}
-use Rattle.model.specs.Tables.{headCode, argRead, argsOfLine, stepCode, commandCode, lineRead}
+use Rattle.model.specs.Tables.{headCode, argRead, argsOfLine, stepCode, commandCode, hasOperands, lineRead}
 use Rattle.model.proofs.Tests.{and-left, and-right}
 use Rattle.values.proofs.Padded.{length-padded}
 use Rattle.decoding.specs.Decoded.{stepFrom, commandFrom}
@@ -23,7 +23,7 @@ use Rattle.decoding.proofs.Decoding.{Read as Sound, placesOf, count-back, comma
 use Rattle.model.specs.declared.Step.{Step}
 use Rattle.token.specs.Carried.{roomOf, Ready, Performs}
 use Rattle.line.specs.Lined.{LineGiven, LineReady}
-use Rattle.line.specs.Stages.{Stands, ArgumentsGiven, ArgumentsReady, AllTaken, Taken, TakesArguments, StepsGiven, StepsReady, stepAt, operationOf, computed, HasOperands}
+use Rattle.line.specs.Stages.{Stands, ArgumentsGiven, ArgumentsReady, AllTaken, Taken, TakesArguments, StepsGiven, StepsReady, stepAt, operationOf, ownOp, lastOperand, computed}
 use Rattle.token.specs.declared.Counts.{Counts}
 use Rattle.token.specs.declared.Outcome.{Outcome}
 use Rattle.line.specs.declared.Came.{Came}
@@ -45,24 +45,39 @@ arguments-then ρ cs fs (computes o args) σ = refl
 abbrev partFor : ℕ → List ℕ → List ℕ
 partFor head steps = take (16 * (head / 256 % 256) + 16 - 16 * (head / 256 % 256)) (drop (16 * (head / 256 % 256)) steps)
 
+-- the step of a computing line does the operation of that kind
+abbrev ownStep : ℕ → ℕ → Step
+ownStep op t = record { op = op; a = 0; b = 0; t = t }
+
+own-step-computes : (op t kind : ℕ) → op ≡ ownOp kind → opOf (ownStep op t) ≡ Compute (operationOf kind t)
+own-step-computes op t kind e = ap (λ o. getD (ops t) o Unknown) e ∙ go (eqb kind 1) (eqb kind 3)
+  where
+    go : (b d : Bool) → getD (ops t) (cond b 4 (cond d 6 5)) Unknown ≡ Compute (cond b Encrypt (cond d (Derive t) Decrypt))
+    go true d = refl
+    go false true = refl
+    go false false = refl
+
 -- ---- what reading has seen to in a line, and what its head tells
 
 record Read (cs : List Command) (n : ℕ) (l : Line) : Type 0 where
   few : length (argsOfLine l) ≤ 4
   read : T (every argRead (argsOfLine l))
   names : T (lineNames cs n l)
+  operands : T (hasOperands l)
   named : T (every (argNames n) (argsOfLine l))
 
 read-in-parts : (cs : List Command) (n : ℕ) (l : Line) → T (lineRead cs n l) → Read cs n l
 read-in-parts cs n l h =
     let few : Bool = leb (length (argsOfLine l)) 4 in
     let read = every argRead (argsOfLine l) in
-    let without-names = and-left (few && read) (lineNames cs n l) h in
-    let names = and-right (few && read) (lineNames cs n l) h in
+    let without-operands = and-left (few && read && lineNames cs n l) (hasOperands l) h in
+    let without-names = and-left (few && read) (lineNames cs n l) without-operands in
+    let names = and-right (few && read) (lineNames cs n l) without-operands in
     record {
       few = leb→le (length (argsOfLine l)) 4 (and-left few read without-names);
       read = and-right few read without-names;
       names = names;
+      operands = and-right (few && read && lineNames cs n l) (hasOperands l) h;
       named = go l names;
     }
   where
@@ -86,11 +101,15 @@ module _ (cs : List Command) (n head : ℕ) (few-commands : length cs ≤ 32) wh
       let both = and-left (there && many) (every (argNames n) args) (R .names) in
       (ltb→lt k (length cs) (and-left there many both), eqb→eq (length args) (commandAt cs k .params) (and-right there many both))
 
+  labelled : (k : ℕ) (args : List Arg) → Read cs n (computes (Derive k) args) → (k < 2) × (length args ≡ 1)
+  labelled k args R = (ltb→lt k 2 (and-left (ltb k 2) (eqb (length args) 1) (R .operands)), eqb→eq (length args) 1 (and-right (ltb k 2) (eqb (length args) 1) (R .operands)))
+
   count-told : (l : Line) → Read cs n l → head ≡ headCode l → head / 65536 ≡ length (argsOfLine l)
   unfolding headCode
   count-told (calls k args) R e = let there = called k args R .0 in omega arith
   count-told (computes Encrypt args) R e = omega arith
   count-told (computes Decrypt args) R e = omega arith
+  count-told (computes (Derive k) args) R e = let small = labelled k args R in omega arith
 
   -- a line of kind 0 runs the steps of its command
   record Calls (l : Line) : Type 0 where
@@ -111,24 +130,33 @@ module _ (cs : List Command) (n head : ℕ) (few-commands : length cs ≤ 32) wh
       }
   call-told (computes Encrypt args) R e kind = absurd (omega arith)
   call-told (computes Decrypt args) R e kind = absurd (omega arith)
+  call-told (computes (Derive k) args) R e kind = absurd (omega arith)
 
-  -- a line of another kind computes from its two operands
+  -- a line of another kind computes from its operands
   record Computes (l : Line) : Type 0 where
-    two : 2 ≤ length (argsOfLine l)
+    first : 0 < length (argsOfLine l)
+    last : lastOperand (head % 256) < length (argsOfLine l)
     computes : (ρ : Room) (vs : List Value) (σ : State)
-        → goesOn ρ cs l vs σ ≡ computed ρ (operationOf (head % 256)) (valueAt vs 0) (valueAt vs 1) σ
+        → goesOn ρ cs l vs σ ≡ computed ρ (operationOf (head % 256) (head / 256 % 256)) (valueAt vs 0) (valueAt vs (lastOperand (head % 256))) σ
 
-  operation-told : HasOperands head → (l : Line) → Read cs n l → head ≡ headCode l → (head % 256 ≡ 0 → ⊥) → Computes l
+  operation-told : (l : Line) → Read cs n l → head ≡ headCode l → (head % 256 ≡ 0 → ⊥) → Computes l
   unfolding headCode
-  operation-told operands (calls k args) R e other =
+  operation-told (calls k args) R e other =
       let there = called k args R .0 in
       absurd (other (omega arith))
-  operation-told operands (computes Encrypt args) R e other =
+  operation-told (computes Encrypt args) R e other =
       let kind : head % 256 ≡ 1 = omega arith in
-      record { two = omega (arith, operands other); computes = λ ρ vs σ. rw kind }
-  operation-told operands (computes Decrypt args) R e other =
+      let two = eqb→eq (length args) 2 (R .operands) in
+      record { first = omega arith; last = rw kind (omega arith); computes = λ ρ vs σ. rw kind }
+  operation-told (computes Decrypt args) R e other =
       let kind : head % 256 ≡ 2 = omega arith in
-      record { two = omega (arith, operands other); computes = λ ρ vs σ. rw kind }
+      let two = eqb→eq (length args) 2 (R .operands) in
+      record { first = omega arith; last = rw kind (omega arith); computes = λ ρ vs σ. rw kind }
+  operation-told (computes (Derive k) args) R e other =
+      let small = labelled k args R in
+      let kind : head % 256 ≡ 3 = omega arith in
+      let label-is : head / 256 % 256 ≡ k = low-byte (head / 256) k (length args) (omega arith) (omega arith) in
+      record { first = omega arith; last = rw kind (omega arith); computes = λ ρ vs σ. rw (kind, label-is) }
 
 -- ---- from the line to its stages
 
@@ -268,35 +296,41 @@ module _ {σ : State} {cs : List Command} {fs : List Finished} {l : Line} {c : C
 
       -- ---- an operation of the attacker's own
 
-      module _ (operands : HasOperands head) (other : head % 256 ≡ 0 → ⊥) where
+      module _ (other : head % 256 ≡ 0 → ⊥) where
         line-computes : Computes cs (length fs) head (G .few-commands) l
-        line-computes = operation-told cs (length fs) head (G .few-commands) operands l read-line (G .head-is) other
+        line-computes = operation-told cs (length fs) head (G .few-commands) l read-line (G .head-is) other
 
-        -- the values that are there are those of the first two rows
-        operand : (i : ℕ) → i < 2 → (getD (r .values) i 0 < c′ .rows) × (valueAt (all-taken .σ′ .world .rows) (getD (r .values) i 0) ≡ valueAt (all-taken .vs) i)
+        -- the values that are there are those of the first rows
+        operand : (i : ℕ) → i < length (argsOfLine l)
+            → (getD (r .values) i 0 < c′ .rows) × (valueAt (all-taken .σ′ .world .rows) (getD (r .values) i 0) ≡ valueAt (all-taken .vs) i)
         operand i h =
-            let there : i < length (all-taken .vs) = omega (arith, all-taken .as-many, line-computes .two) in
+            let there : i < length (all-taken .vs) = omega (arith, all-taken .as-many) in
             (omega (arith, all-taken .valued .has-row i there, rows-counted (all-taken .stands)), all-taken .valued .is i there)
 
-        pub operands-are-ready : Ready c rows keys guards
-            → Ready c′ rows′ keys guards × (getD (r .values) 0 0 < c′ .rows) × (getD (r .values) 1 0 < c′ .rows)
-        operands-are-ready ready = (
-          ready-where-it-stands (all-taken .stands) (omega (arith, kept, ready .rows-small)) (ready .keys-small),
-          operand 0 (omega arith) .0,
-          operand 1 (omega arith) .0,
-        )
+        module _ (j : ℕ) (named : j ≡ lastOperand (head % 256)) where
+          pub operands-are-ready : Ready c rows keys guards
+              → Ready c′ rows′ keys guards × (getD (r .values) 0 0 < c′ .rows) × (getD (r .values) j 0 < c′ .rows)
+          operands-are-ready ready = (
+            ready-where-it-stands (all-taken .stands) (omega (arith, kept, ready .rows-small)) (ready .keys-small),
+            operand 0 (line-computes .first) .0,
+            rw named (operand (lastOperand (head % 256)) (line-computes .last) .0),
+          )
 
-        pub line-computes-value : (o : Outcome) (exit-rows exit-keys exit-guards : List ℕ)
-            → ((τ : State) → Stands τ c′ rows′ keys guards → Performs τ (computed (roomOf rows′ keys) (operationOf (head % 256)) (valueAt (τ .world .rows) (getD (r .values) 0 0)) (valueAt (τ .world .rows) (getD (r .values) 1 0)) τ) o exit-rows exit-keys exit-guards)
-            → Performs σ (runLine (roomOf rows keys) cs fs l σ) o exit-rows exit-keys exit-guards
-        line-computes-value o exit-rows exit-keys exit-guards did =
-            let ρ = roomOf rows′ keys in
-            let τ = all-taken .σ′ in
-            performs-from-earlier (all-taken .extends)
-            (goes-on-with-values
-            ∙ line-computes .computes ρ (all-taken .vs) τ
-            ∙ ap₂ (λ v w. computed ρ (operationOf (head % 256)) v w τ) (sym (operand 0 (omega arith) .1)) (sym (operand 1 (omega arith) .1)))
-            (did τ (all-taken .stands))
+          pub line-computes-value : (op t : ℕ) → op ≡ ownOp (head % 256) → t ≡ head / 256 % 256 → (o : Outcome) (exit-rows exit-keys exit-guards : List ℕ)
+              → ((τ : State) (a : Operation) → Stands τ c′ rows′ keys guards → opOf (ownStep op t) ≡ Compute a
+              → Performs τ (computed (roomOf rows′ keys) a (valueAt (τ .world .rows) (getD (r .values) 0 0)) (valueAt (τ .world .rows) (getD (r .values) j 0)) τ) o exit-rows exit-keys exit-guards)
+              → Performs σ (runLine (roomOf rows keys) cs fs l σ) o exit-rows exit-keys exit-guards
+          line-computes-value op t op-is t-is o exit-rows exit-keys exit-guards did =
+              let ρ = roomOf rows′ keys in
+              let τ = all-taken .σ′ in
+              let a = operationOf (head % 256) (head / 256 % 256) in
+              let second : valueAt (τ .world .rows) (getD (r .values) j 0) ≡ valueAt (all-taken .vs) (lastOperand (head % 256)) =
+              rw named (operand (lastOperand (head % 256)) (line-computes .last) .1) in
+              performs-from-earlier (all-taken .extends)
+              (goes-on-with-values
+              ∙ line-computes .computes ρ (all-taken .vs) τ
+              ∙ ap₂ (λ v w. computed ρ a v w τ) (sym (operand 0 (line-computes .first) .1)) (sym second))
+              (did τ a (all-taken .stands) (own-step-computes op t (head % 256) op-is ∙ ap (λ t. Compute (operationOf (head % 256) t)) t-is))
 
 pub arguments-are-ready : {c : Counts} {rows keys guards outcomes commands steps : List ℕ} {head args : ℕ}
     → LineReady c rows keys guards outcomes commands steps head args → ArgumentsReady c rows outcomes args (head / 65536)

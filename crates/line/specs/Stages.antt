@@ -4,12 +4,12 @@
 use Prim.Native.Nat.{ℕ, _+_, _/_, _%_, _≤_, _<_}
 use mathlib.Core.Path.{_≡_}
 use mathlib.Core.Bool.{cond}
-use mathlib.Core.List.{List, [], _∷_}
+use mathlib.Core.List.{List, []}
 use lib.Dec.{T, eqb}
 use lib.ListN.{length, getD}
 use Rattle.model.specs.Basics.{every}
-use Rattle.model.specs.Step.{Operation, Encrypt, Decrypt}
-use Rattle.model.specs.Value.{Value, compute, valueAt}
+use Rattle.model.specs.Step.{Operation, Encrypt, Decrypt, Derive}
+use Rattle.model.specs.Value.{Value, compute, operands, valueAt}
 use Rattle.model.specs.Token.{State, Room, Out, ended, andThen, appear}
 use Rattle.model.specs.Session.{Arg, Finished, withArguments}
 use Rattle.model.specs.Frame.{argNames, namesMade}
@@ -129,12 +129,17 @@ pub record StepsReady (c : Counts) (rows keys guards part : List ℕ) (count par
 
 -- ---- an operation of the attacker's own
 
-abbrev pub operationOf : ℕ → Operation
-operationOf kind = cond (eqb kind 1) Encrypt Decrypt
+-- by its line's kind, with the number that stands in the command's place for a label
+abbrev pub operationOf : ℕ → ℕ → Operation
+operationOf kind label = cond (eqb kind 1) Encrypt (cond (eqb kind 3) (Derive label) Decrypt)
 
+-- the op of the step of the same name, and the argument that its field b names
+abbrev pub ownOp : ℕ → ℕ
+ownOp kind = cond (eqb kind 1) 4 (cond (eqb kind 3) 6 5)
+
+abbrev pub lastOperand : ℕ → ℕ
+lastOperand kind = cond (eqb kind 3) 0 1
+
+-- the line ends with the value
 abbrev pub computed : Room → Operation → Value → Value → State → Out
-computed ρ o v w σ = andThen (appear ρ (compute o (v ∷ w ∷ [])) σ) (λ u σ′. ended u σ′)
-
--- a computing line has its two operands
-abbrev pub HasOperands : ℕ → Type 0
-HasOperands head = (head % 256 ≡ 0 → ⊥) → 2 ≤ head / 65536
+computed ρ o v w σ = andThen (appear ρ (compute o (operands o v w)) σ) (λ u σ′. ended u σ′)

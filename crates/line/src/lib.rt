@@ -9,7 +9,7 @@ ghost use mathlib.Core.Path.{_≡_};
 ghost use mathlib.Core.List.{List};
 ghost use Prim.Native.Nat.{ℕ, _<_};
 ghost use lib.ListN.{getD};
-ghost use Rattle.model.specs.Step.{Command};
+ghost use Rattle.model.specs.Step.{Operation, Compute, opOf, Command};
 ghost use Rattle.model.specs.Value.{Value, valueAt};
 ghost use Rattle.model.specs.Token.{State, runSteps};
 ghost use Rattle.model.specs.Session.{Arg, Line, Finished, appearing, runLine};
@@ -17,7 +17,7 @@ ghost use Rattle.model.specs.Session.{argument as named};
 ghost use Rattle.model.specs.declared.Step.{Step};
 ghost use Rattle.token.specs.Carried.{roomOf, Ready, Performs};
 ghost use Rattle.line.specs.Lined.{LineGiven, LineReady};
-ghost use Rattle.line.specs.Stages.{Stands, earlierFrom, ArgumentGiven, ArgumentReady, ArgumentsReady, TakesArguments, StepsGiven, StepsReady, operationOf, computed, HasOperands};
+ghost use Rattle.line.specs.Stages.{Stands, earlierFrom, ArgumentGiven, ArgumentReady, ArgumentsReady, TakesArguments, StepsGiven, StepsReady, computed, ownOp, lastOperand};
 
 // What an earlier line came to: its value's row, or nothing.
 enum Earlier {
@@ -137,26 +137,37 @@ fn run_steps(
     Outcome::Stopped(now)
 }
 
-// An operation of the attacker's own gives what the step of that name gives, and the line ends with it. Kind 1 is to encrypt.
+// The op of the step that does what a line of this kind computes.
+fn own_op(kind: u64) -> u8
+    ensures { λ r. ⌜ r ≡ ownOp kind ⌝ }
+{
+    match kind {
+        1 => 4,
+        3 => 6,
+        _ => 5,
+    }
+}
+
+// The argument that the step of a computing line names by its field b: the second, or the only one.
+fn last_operand(kind: u64) -> usize
+    ensures { λ r. ⌜ (r ≡ lastOperand kind) × (r < 2) ⌝ }
+{
+    if kind == 3 { 0 } else { 1 }
+}
+
+// An operation of the attacker's own gives what the step of that name gives, and the line ends with it.
 fn compute(
     rows: &mut [u64],
     keys: &mut [u64],
     guards: &mut [u64],
     c: Counts,
-    kind: u64,
+    s: Step,
     x: usize,
     y: usize,
 ) -> Outcome
     requires { ⌜ Ready c (now rows) (now keys) (now guards) × (x < c .rows) × (y < c .rows) ⌝ }
-    ensures { λ r. ⌜ ((σ : State) → Stands σ c (now (rows .entry)) (now (keys .entry)) (now (guards .entry)) → Performs σ (computed (roomOf (now (rows .entry)) (now (keys .entry))) (operationOf kind) (valueAt (σ .world .rows) x) (valueAt (σ .world .rows) y) σ) r (now (rows .exit)) (now (keys .exit)) (now (guards .exit))) ⌝ }
+    ensures { λ r. ⌜ ((σ : State) (o : Operation) → Stands σ c (now (rows .entry)) (now (keys .entry)) (now (guards .entry)) → opOf s ≡ Compute o → Performs σ (computed (roomOf (now (rows .entry)) (now (keys .entry))) o (valueAt (σ .world .rows) x) (valueAt (σ .world .rows) y) σ) r (now (rows .exit)) (now (keys .exit)) (now (guards .exit))) ⌝ }
 {
-    let op: u8 = if kind == 1 { 4 } else { 5 };
-    let s = Step {
-        op: op,
-        a: 0,
-        b: 0,
-        t: 0,
-    };
     let o = perform_step(rows, keys, guards, c, s, x, y);
     let Outcome::Gave(then, row) = o else {
         return o;
@@ -176,7 +187,7 @@ pub fn run_line(
     head: u64,
     args: u64,
 ) -> Outcome
-    requires { ⌜ LineReady c (now rows) (now keys) (now guards) (now outcomes) (now commands) (now steps) head args × HasOperands head ⌝ }
+    requires { ⌜ LineReady c (now rows) (now keys) (now guards) (now outcomes) (now commands) (now steps) head args ⌝ }
     ensures { λ r. ⌜ ((σ : State) (cs : List Command) (fs : List Finished) (l : Line) → LineGiven σ cs fs l c (now (rows .entry)) (now (keys .entry)) (now (guards .entry)) (now (outcomes .entry)) (now (commands .entry)) (now (steps .entry)) head args → Performs σ (runLine (roomOf (now (rows .entry)) (now (keys .entry))) cs fs l σ) r (now (rows .exit)) (now (keys .exit)) (now (guards .exit))) ⌝ }
 {
     let kind = head % 256;
@@ -195,7 +206,15 @@ pub fn run_line(
                 let part = &steps[first..last];
                 return run_steps(rows, keys, guards, part, now, n, count, values);
             }
-            compute(rows, keys, guards, now, kind, values[0], values[1])
+            let label = (head / 256 % 256) as u8;
+            let s = Step {
+                op: own_op(kind),
+                a: 0,
+                b: 0,
+                t: label,
+            };
+            let other = last_operand(kind);
+            compute(rows, keys, guards, now, s, values[0], values[other])
         }
     }
 }

@@ -12,7 +12,7 @@ use Rattle.model.specs.Policy.{Policy}
 use Rattle.model.specs.Typing.{stepFindings, findings, accepted, orLater, firstRefusal, verdict}
 use Rattle.model.specs.declared.Verdict.{Verdict}
 use Rattle.model.specs.Basics.{All}
-use Rattle.model.proofs.TypedValues.{all-append}
+use Rattle.model.proofs.Lists.{all-append}
 
 -- a step that meets its rules
 abbrev pub Met : Verdict → Type 0

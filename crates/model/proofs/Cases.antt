@@ -1,4 +1,4 @@
--- Further cases, computed like the marked ones: each read refusal, verdict number and run ending, what a stop undoes, and when a value is guarded.
+-- Further cases, computed like the marked ones: each read refusal, verdict number and run ending, what a stop undoes, when a value is guarded, and derived keys.
 -- Assumes nothing.
 use Prim.Native.String.{String}
 use mathlib.Core.Path.{refl}
@@ -87,6 +87,66 @@ runs =
 pub runs-hold : AllHold runs
 unfolding opened
 runs-hold = (refl, (refl, (refl, (refl, tt))))
+
+-- ---- derived keys
+
+-- the policy that allows data keys (7), wrapping keys (19) and seeds (23), all always sensitive, with r Data; and commands that generate
+-- a seed, derive a data key from it, and derive a wrapping key from it
+abbrev seeds : List String → List String
+seeds rest =
+    "01020000000000880080"
+    ∷ "0200020200001700000000"
+    ∷ "02010401000017060001000302000700030000"
+    ∷ "02010401000017060001010302001300030000"
+    ∷ rest
+
+abbrev pub derivations : List Case
+derivations =
+    -- the same label and value have one row, and another label another; the attacker derives from what is held
+    answered (text (seeds ("03000000" ∷ "030001010000" ∷ "030002010000" ∷ "030001010000" ∷ "030300018005" ∷ "030301018005" ∷ "030300018005" ∷ [])))
+    ("8100000000"
+    ∷ "820000000000000100"
+    ∷ "820001000003000200"
+    ∷ "820002000005000300"
+    ∷ "820003000006000400"
+    ∷ "820004000008000400"
+    ∷ "820005000009000400"
+    ∷ "820006000008000400"
+    ∷ "8300ffff"
+    ∷ [])
+    -- a derived data key is not returned; a derived wrapping key is not stored as a data key
+    ∷ judged (seeds ("020103010000170600010000020000" ∷ [])) (verdictIs 21 4 2)
+    ∷ judged (seeds ("02010401000017060001010302000700030000" ∷ [])) (verdictIs 20 4 2)
+    -- from what is public comes what is public, under each label
+    ∷ judged (some-policy ∷ "0201020600000000010000" ∷ []) (verdictIs 0 0 0)
+    ∷ judged (some-policy ∷ "0201020600000100010000" ∷ []) (verdictIs 0 0 0)
+    -- from a key of another type nothing: Data, Wrap, TData, and Any, the join of a trusted data key and a seed
+    ∷ judged (some-policy ∷ "020103010000040600010000000000" ∷ []) (verdictIs 23 1 1)
+    ∷ judged (some-policy ∷ "020103010000100600010000000000" ∷ []) (verdictIs 23 1 1)
+    ∷ judged ("01020000000000000080" ∷ "020103010000040600010000000000" ∷ []) (verdictIs 23 1 1)
+    ∷ judged (seeds ("020103010000040600010000000000" ∷ [])) (verdictIs 23 4 1)
+    -- a label of 2; a field a that is not 0; a value not yet made; an op that is not there; a line with label 2, with two arguments, with
+    -- none, of kind 4
+    ∷ answered (text (some-policy ∷ "0201020600000200010000" ∷ [])) ("80040001" ∷ [])
+    ∷ answered (text (some-policy ∷ "0202020601000000020000" ∷ [])) ("80040001" ∷ [])
+    ∷ answered (text (some-policy ∷ "0201020600010000010000" ∷ [])) ("80060001" ∷ [])
+    ∷ answered (text (some-policy ∷ "0201020700000000010000" ∷ [])) ("80040001" ∷ [])
+    ∷ answered (text (some-policy ∷ "030302018005" ∷ [])) ("80040001" ∷ [])
+    ∷ answered (text (some-policy ∷ "0303000280058006" ∷ [])) ("80040001" ∷ [])
+    ∷ answered (text (some-policy ∷ "03030000" ∷ [])) ("80040001" ∷ [])
+    ∷ answered (text (some-policy ∷ "030400018005" ∷ [])) ("80040001" ∷ [])
+    -- a derived key is not guarded until it is kept under A; it was in hand then
+    ∷ answered (text (seeds ("020103010000170600010000020000" ∷ "03000000" ∷ "030003010000" ∷ "030001010000" ∷ [])))
+    ("8115000402" ∷ "820000000000000100" ∷ "820001000002000100" ∷ "820002000003000201" ∷ "83000002" ∷ [])
+    -- a key derived from an imported seed: the attacker derives it too
+    ∷ answered
+    (text ("01020000000000200080" ∷ "0201020300001500010000" ∷ "02010401000015060001000302000700030000" ∷ "030000018005" ∷ "030001010000" ∷ "030300018005" ∷ []))
+    ("8117000201" ∷ "820000000001000100" ∷ "820001000003000200" ∷ "820002000002000201" ∷ "83000002" ∷ [])
+    ∷ []
+
+pub derivations-hold : AllHold derivations
+unfolding opened
+derivations-hold = (refl, (refl, (refl, (refl, (refl, (refl, (refl, (refl, (refl, (refl, (refl, (refl, (refl, (refl, (refl, (refl, (refl, (refl, (refl, tt)))))))))))))))))))
 
 -- ---- where there is no room
 

@@ -8,7 +8,7 @@ use lib.Dec.{T, ltb, leb, eqb→eq, ltb→lt, leb→le}
 use lib.ListN.{length, length-append, length-map, length-replicate}
 use Rattle.model.specs.Basics.{All, every}
 use Rattle.model.specs.Types.{typeOfCode, codeOf}
-use Rattle.model.specs.Step.{Use, nothing, value, attributes, fieldsOf, opOf, Encrypt, Decrypt, Command}
+use Rattle.model.specs.Step.{Use, nothing, value, attributes, label, fieldsOf, opOf, Encrypt, Decrypt, Derive, Command}
 use Rattle.model.specs.Session.{Arg, constant, ofLine, Line, calls, computes}
 use Rattle.model.specs.Frame.{File, fieldFormed, stepFormed, fieldNames, stepNames, namesMade, argNames}
 use Rattle.model.specs.File.{file}
@@ -70,10 +70,11 @@ field-small : (n : ℕ) (u : Use) (x : ℕ) → n < 256 → T (fieldFormed u x) 
 field-small n nothing x l formed named = omega (arith, eqb→eq)
 field-small n value x l formed named = omega (arith, ltb→lt)
 field-small n attributes x l formed named = omega (arith, ltb→lt)
+field-small n label x l formed named = omega (arith, ltb→lt)
 
 step-small : (n : ℕ) (s : Step) → n < 256 → T (stepFormed s) → T (stepNames n s) → SmallStep s
 step-small n s l formed named = record {
-  op-small = omega (arith, ltb→lt (s .op) 6 (search (and-left, and-right)));
+  op-small = omega (arith, ltb→lt (s .op) 7 (search (and-left, and-right)));
   a-small = field-small n (fieldsOf (opOf s) .a) (s .a) l (search (and-left, and-right)) (search and-left);
   b-small = field-small n (fieldsOf (opOf s) .b) (s .b) l (search (and-left, and-right)) (search (and-left, and-right));
 }
@@ -142,7 +143,9 @@ SmallArg (ofLine i) = i < 0x8000
 
 abbrev SmallLine : Line → Type 0
 SmallLine (calls c args) = (c < 256) × All SmallArg args
-SmallLine (computes o args) = All SmallArg args
+SmallLine (computes Encrypt args) = All SmallArg args
+SmallLine (computes Decrypt args) = All SmallArg args
+SmallLine (computes (Derive l) args) = (l < 256) × All SmallArg args
 
 args-small : (n : ℕ) (args : List Arg) → n ≤ 1024 → T (every argRead args) → T (every (argNames n) args) → All SmallArg args
 args-small n [] l h k = tt
@@ -155,7 +158,11 @@ line-small : (cs : List Command) (n : ℕ) (l : Line) → length cs ≤ 32 → n
 line-small cs n (calls c args) few few-lines h =
     let there : T (ltb c (length cs)) = search (and-left, and-right) in
     (omega (arith, ltb→lt), args-small n args few-lines (search (and-left, and-right)) (search (and-left, and-right)))
-line-small cs n (computes o args) few few-lines h = args-small n args few-lines (search (and-left, and-right)) (search (and-left, and-right))
+line-small cs n (computes Encrypt args) few few-lines h = args-small n args few-lines (search (and-left, and-right)) (search (and-left, and-right))
+line-small cs n (computes Decrypt args) few few-lines h = args-small n args few-lines (search (and-left, and-right)) (search (and-left, and-right))
+line-small cs n (computes (Derive l) args) few few-lines h =
+    let label-small : T (ltb l 2) = search (and-left, and-right) in
+    (omega (arith, ltb→lt), args-small n args few-lines (search (and-left, and-right)) (search (and-left, and-right)))
 
 lines-small : (cs : List Command) (n : ℕ) (ls : List Line) → length cs ≤ 32 → n + length ls ≤ 1024 → T (linesRead cs n ls) → All SmallLine ls
 unfolding linesRead
@@ -196,12 +203,22 @@ line-once (calls c xs) (calls d ys) h k e f =
     cc
 line-once (calls c xs) (computes Encrypt ys) h k e f = absurd (omega arith)
 line-once (calls c xs) (computes Decrypt ys) h k e f = absurd (omega arith)
+line-once (calls c xs) (computes (Derive l) ys) h k e f = absurd (omega arith)
 line-once (computes Encrypt xs) (calls d ys) h k e f = absurd (omega arith)
 line-once (computes Encrypt xs) (computes Encrypt ys) h k e f = ap (computes Encrypt) (args-once xs ys h k (omega arith) f)
 line-once (computes Encrypt xs) (computes Decrypt ys) h k e f = absurd (omega arith)
+line-once (computes Encrypt xs) (computes (Derive l) ys) h k e f = absurd (omega arith)
 line-once (computes Decrypt xs) (calls d ys) h k e f = absurd (omega arith)
 line-once (computes Decrypt xs) (computes Encrypt ys) h k e f = absurd (omega arith)
 line-once (computes Decrypt xs) (computes Decrypt ys) h k e f = ap (computes Decrypt) (args-once xs ys h k (omega arith) f)
+line-once (computes Decrypt xs) (computes (Derive l) ys) h k e f = absurd (omega arith)
+line-once (computes (Derive l) xs) (calls d ys) h k e f = absurd (omega arith)
+line-once (computes (Derive l) xs) (computes Encrypt ys) h k e f = absurd (omega arith)
+line-once (computes (Derive l) xs) (computes Decrypt ys) h k e f = absurd (omega arith)
+line-once (computes (Derive l) xs) (computes (Derive m) ys) h k e f =
+    let same-head = byte-once l m (length xs) (length ys) (h .0) (k .0) (omega arith) in
+    let same-args = args-once xs ys (h .1) (k .1) (same-head .1) f in
+    cc
 
 -- ---- whole files
 

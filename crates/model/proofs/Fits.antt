@@ -9,9 +9,9 @@ use lib.Dec.{T, eqb, ltb, leb, leb→le}
 use lib.ListN.{length, length-append, replicate}
 use Rattle.model.specs.Basics.{_else_then_, every, All}
 use Rattle.model.specs.Types.{Ty, Un, typeOf}
-use Rattle.model.specs.Step.{Op, Return, Get, Generate, Store, Compute, Unknown, Encrypt, Decrypt, opOf, Command}
+use Rattle.model.specs.Step.{Op, Return, Get, Generate, Store, Compute, Unknown, Encrypt, Decrypt, Derive, opOf, Command}
 use Rattle.model.specs.Policy.{Policy, allows, offered, meets, lawful}
-use Rattle.model.specs.Typing.{returnOk, handleOk, storeOk, encryptOk, decryptOk, refusal, typeAt, stepGives, stepFindings, findings, orLater, firstRefusal, verdict}
+use Rattle.model.specs.Typing.{returnOk, handleOk, storeOk, encryptOk, decryptOk, deriveOk, refusal, typeAt, stepGives, stepFindings, findings, orLater, firstRefusal, verdict}
 use Rattle.model.specs.Value.{Value, present, valueAt, compute, operands}
 use Rattle.model.specs.Token.{State, Room, Out, gave, ended, stopped, full, andThen, fits, withRow, appear, newAtom, keep, withPlace, guardsGenerated, guardsStored, generate, store, placeOf, keyAt, get, perform, runSteps, commandAt, call}
 use Rattle.model.specs.Session.{Arg, Line, calls, computes, Outcome, value, none, Finished, Session, start, argument, appearing, withArguments, runLine, finishedAs, finish, Run, afterLine, runFrom, run}
@@ -46,6 +46,7 @@ step-refusal-fits p Store s x y =
     (else-fits storable 20 0 (omega arith) (omega arith))
 step-refusal-fits p (Compute Encrypt) s x y = else-fits (encryptOk (p .transported) x y) 18 0 (omega arith) (omega arith)
 step-refusal-fits p (Compute Decrypt) s x y = else-fits (decryptOk x y) 19 0 (omega arith) (omega arith)
+step-refusal-fits p (Compute (Derive l)) s x y = else-fits (deriveOk y) 23 0 (omega arith) (omega arith)
 step-refusal-fits p Unknown s x y = omega arith
 
 all-joined : {A : Type 0} (P : A → Type 0) (xs ys : List A) → All P xs → All P ys → All P (xs ++ ys)

@@ -1,3 +1,4 @@
+pub mod Lists
 pub mod Tests
 pub mod TypeOrder
 pub mod TypeRules

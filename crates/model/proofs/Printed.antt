@@ -17,7 +17,7 @@ use Rattle.model.specs.Frame.{File, Reading, nothingRead, Kind, policyKi
 use Rattle.model.specs.File.{Parsed, refused, file, lineRefusal, afterFrame, unlessRefused, parseFrom, parse}
 use Rattle.model.specs.Report.{runOf, verdictFrame, lineFrames, firstBreach, answerTo, answer, programRoom}
 use Rattle.model.proofs.Tests.{and-right, met, every-in-range}
-use Rattle.model.proofs.TypedValues.{none-passes}
+use Rattle.model.proofs.Lists.{none-passes}
 use Rattle.model.proofs.Acceptance.{no-refusal, all-met}
 use Rattle.model.proofs.Secure.{Lawful, accepted-is-flat}
 

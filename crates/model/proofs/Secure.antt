@@ -11,17 +11,18 @@ use lib.Dec.{T, eqb, ltb, eqb→eq, ltb→lt, T-not, not-T}
 use lib.ListN.{length, replicate}
 use Rattle.model.specs.Basics.{All, _else_then_, some, those, upFrom, implies}
 use Rattle.model.specs.Types.{Ty, Un, None, is, typed, below, typeOf}
-use Rattle.model.specs.Step.{Op, Return, Get, Generate, Store, Compute, Unknown, Operation, Encrypt, Decrypt, opOf, Command}
+use Rattle.model.specs.Step.{Op, Return, Get, Generate, Store, Compute, Unknown, Operation, Encrypt, Decrypt, Derive, opOf, Command}
 use Rattle.model.specs.Policy.{Policy, allows, meets, joinOf, getType, lawful}
-use Rattle.model.specs.Typing.{returnOk, storeOk, encryptOk, decryptOk, refusal, gives, typeAt, stepGives, stepFindings, findings, verdict}
-use Rattle.model.specs.Value.{Value, const, fresh, enc, dec, isConst, valueAt, compute, operands, present}
+use Rattle.model.specs.Typing.{returnOk, storeOk, encryptOk, decryptOk, deriveOk, refusal, gives, typeAt, stepGives, stepFindings, findings, verdict}
+use Rattle.model.specs.Value.{Value, const, fresh, enc, dec, div, isConst, valueAt, compute, operands, present}
 use Rattle.model.specs.Token.{Key, World, State, Room, Out, gave, ended, stopped, full, andThen, fits, withRow, appear, newAtom, guardIf, keep, withPlace, guardsGenerated, guardsStored, generate, store, placeOf, keyAt, get, perform, runSteps, commandAt, call}
 use Rattle.model.specs.Session.{Arg, constant, ofLine, Line, calls, computes, Outcome, value, none, Finished, Flat, Session, outcomesOf, start, isValue, inHand, breached, argument, appearing, withArguments, runLine, finishedAs, finish, Run, afterLine, runFrom, run}
 use Rattle.model.specs.declared.Step.{Step}
+use Rattle.model.proofs.Lists.{all-map, all-snoc, all-getD, none-passes}
 use Rattle.model.proofs.Tests.{and-left, and-right, and-both, either, apply, each, met, first-or-later}
 use Rattle.model.proofs.TypeOrder.{below-trans, below-refl, below-typed, join-left}
-use Rattle.model.proofs.TypeRules.{encrypt-sound, return-sound, store-sound, below-wider-join, at-template, generated-guarded, stored-guarded}
-use Rattle.model.proofs.TypedValues.{same-equal, all-map, all-snoc, all-getD, none-passes, outcomes-snoc, Births, Later, later-refl, later-trans, born, born-later, born-at, born-other, typeIn, type-kept, Has, has-kept, decrypt-has, Match, match-kept, match-snoc, match-at, match-start}
+use Rattle.model.proofs.TypeRules.{encrypt-sound, derive-sound, derived-not-open, return-sound, store-sound, below-wider-join, at-template, generated-guarded, stored-guarded}
+use Rattle.model.proofs.TypedValues.{same-equal, outcomes-snoc, Births, Later, later-refl, later-trans, born, born-later, born-at, born-other, typeIn, type-kept, Has, has-kept, decrypt-has, Match, match-kept, match-snoc, match-at, match-start}
 use Rattle.model.proofs.Acceptance.{Met, SoundCommand, all-sound, no-refusal, no-steps-sound}
 
 -- ---- a get is typed above every template that it may find
@@ -257,6 +258,7 @@ module _ (p : Policy) (lw : Lawful p) where
   compute-good Θ Encrypt s x y v w e hv hw =
       encrypt-sound r (typeIn Θ r v) (typeIn Θ r w) x y hv hw (met (encryptOk r x y) 17 0 e .0)
   compute-good Θ Decrypt s x y v w e hv hw = decrypt-has Θ r (lw .typed-transport) v w x y hv hw (met (decryptOk x y) 18 0 e .0)
+  compute-good Θ (Derive l) s x y v w e hv hw = derive-sound l (typeIn Θ r w) y hw (met (deriveOk y) 22 0 e .0)
 
   step-good : (Θ : Births) (ρ : Room) (o : Op) (s : Step) (x y : Ty) (v w : Value) (σ : State) → refusal p o s x y ≡ 0 → Invariant Θ σ
       → Has Θ (p .transported) v x → Has Θ (p .transported) w y
@@ -348,6 +350,7 @@ module _ (p : Policy) (lw : Lawful p) where
       encrypt-sound r (typeIn Θ r (valueAt vs 0)) (typeIn Θ r (valueAt vs 1)) Un Un (open-at Θ vs 0 h) (open-at Θ vs 1 h) tt
   open-computes-open Θ Decrypt vs h =
       decrypt-has Θ r (lw .typed-transport) (valueAt vs 0) (valueAt vs 1) Un Un (open-at Θ vs 0 h) (open-at Θ vs 1 h) tt
+  open-computes-open Θ (Derive l) vs h = derive-sound l (typeIn Θ r (valueAt vs 0)) Un (open-at Θ vs 0 h) tt
 
   line-good : (Θ : Births) (ρ : Room) (cs : List Command) (fs : List Finished) (l : Line) (σ : State)
       → All (SoundCommand p) cs → Invariant Θ σ → InHand Θ (outcomesOf fs) → Good Θ OpenValue (runLine ρ cs fs l σ)
@@ -367,17 +370,23 @@ module _ (p : Policy) (lw : Lawful p) where
   guarded-not-const Θ (fresh n) g t = t
   guarded-not-const Θ (enc v k) g t = t
   guarded-not-const Θ (dec v k) g t = t
+  guarded-not-const Θ (div l v) g t = t
 
-  guarded-not-value : (Θ : Births) (g : Value) (o : Outcome) → GuardOk Θ g → OutcomeOk Θ o → T (isValue g o) → ⊥
-  guarded-not-value Θ g (value v) ok h t =
-      T-not (is (typeIn Θ r g) Un) (ok .not-open)
-      (is-un (typeIn Θ r g) (subst (λ (w : Value). Has Θ r w Un) (sym (same-equal g v t)) h))
-  guarded-not-value Θ g none ok h t = t
+  not-open-not-value : (Θ : Births) (g : Value) (o : Outcome) → T (not (is (typeIn Θ (p .transported) g) Un)) → OutcomeOk Θ o → T (isValue g o) → ⊥
+  not-open-not-value Θ g (value v) closed h t =
+      T-not (is (typeIn Θ r g) Un) closed (is-un (typeIn Θ r g) (subst (λ (w : Value). Has Θ r w Un) (sym (same-equal g v t)) h))
+  not-open-not-value Θ g none closed h t = t
 
   guarded-not-in-hand : (Θ : Births) (os : List Outcome) (g : Value) → InHand Θ os → GuardOk Θ g → T (inHand os g) → ⊥
   guarded-not-in-hand Θ os g hand ok t =
       either (isConst g) (some (isValue g) os) t (guarded-not-const Θ g ok)
-      (none-passes (OutcomeOk Θ) (isValue g) (λ o h. guarded-not-value Θ g o ok h) os hand)
+      (none-passes (OutcomeOk Θ) (isValue g) (λ o h. not-open-not-value Θ g o (ok .not-open) h) os hand)
+
+  -- what is derived from a guarded value is no value in hand either
+  derived-not-in-hand : (Θ : Births) (os : List Outcome) (l : ℕ) (g : Value) → InHand Θ os → GuardOk Θ g → T (not (inHand os (div l g)))
+  derived-not-in-hand Θ os l g hand ok =
+      let closed = derived-not-open l (typeIn Θ r g) (ok .not-open) in
+      not-T (inHand os (div l g)) (none-passes (OutcomeOk Θ) (isValue (div l g)) (λ o h. not-open-not-value Θ (div l g) o closed h) os hand)
 
   flat : (Θ : Births) (guarded : List Value) (os : List Outcome) → All (GuardOk Θ) guarded → InHand Θ os → T (not (breached guarded os))
   flat Θ guarded os ok hand =
@@ -433,8 +442,20 @@ module _ (p : Policy) (lw : Lawful p) where
     marks-flat = tt;
   }
 
--- Demand 3. In every room, a limited one or one without limits, no line of any session has a breach mark.
-pub accepted-is-flat : (p : Policy) (cs : List Command) → Lawful p → (verdict p cs) .number ≡ 0
-    → (ρ : Room) (ls : List Line) → All Flat (run ρ cs ls .session .finished)
-accepted-is-flat p cs lw accepted ρ ls =
-    run-right p lw ρ cs ls 0 start (all-sound p 1 cs (no-refusal (findings p 1 cs) accepted)) (start-right p lw) .marks-flat
+module _ (p : Policy) (cs : List Command) (lw : Lawful p) (accepted : (verdict p cs) .number ≡ 0) where
+  session-right : (ρ : Room) (ls : List Line) → Right p lw (run ρ cs ls .session)
+  session-right ρ ls = run-right p lw ρ cs ls 0 start (all-sound p 1 cs (no-refusal (findings p 1 cs) accepted)) (start-right p lw)
+
+  -- Demand 3. In every room, a limited one or one without limits, no line of any session has a breach mark.
+  pub accepted-is-flat : (ρ : Room) (ls : List Line) → All Flat (run ρ cs ls .session .finished)
+  accepted-is-flat ρ ls = session-right ρ ls .marks-flat
+
+  -- What source 002 asks of derived keys: after any session, what is derived from a guarded value, under any label, is not in hand.
+  pub derived-stay-secret : (ρ : Room) (ls : List Line) (l : ℕ)
+      → All (λ g. T (not (inHand (outcomesOf (run ρ cs ls .session .finished)) (div l g)))) (run ρ cs ls .session .state .world .guarded)
+  derived-stay-secret ρ ls l =
+      let right : Right p lw (run ρ cs ls .session) = session-right ρ ls in
+      let Θ = right .births in
+      let os = outcomesOf (run ρ cs ls .session .finished) in
+      all-map (GuardOk p lw Θ) (λ g. T (not (inHand os (div l g)))) (λ g ok. derived-not-in-hand p lw Θ os l g (right .hand-open) ok)
+      (run ρ cs ls .session .state .world .guarded) (right .state-right .guards)

@@ -84,3 +84,14 @@ every-in-range q n (suc k) t m low high =
     first-or-later n k m low high
     (λ e. subst (λ (i : ℕ). T (q i)) (sym e) (and-left (q n) (every q (upFrom (suc n) k)) t))
     (λ l h. every-in-range q (suc n) k (and-right (q n) (every q (upFrom (suc n) k)) t) m l h)
+
+-- ---- a number that is none of the first ones
+
+-- what a match on the numbers 0 to k - 1 knows in its last case, as Rattle states it
+abbrev pub Apart : ℕ → ℕ → Type 0
+Apart zero n = Unit {0}
+Apart (suc k) n = Apart k n × (n ≡ k → ⊥)
+
+pub past : (k n : ℕ) → Apart k n → k ≤ n
+past zero n h = omega arith
+past (suc k) n h = let below = past k n (h .0) in omega (arith, h .1)

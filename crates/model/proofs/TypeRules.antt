@@ -6,10 +6,11 @@ use mathlib.Core.Bool.{Bool, not, cond, _&&_}
 use native.Mathlib.Omega.{arith}
 use lib.Dec.{T}
 use Rattle.model.specs.Basics.{implies, every, upFrom}
-use Rattle.model.specs.Types.{Ty, Un, None, is, typed, below, join, typeOf}
+use Rattle.model.specs.Types.{Ty, Un, Seed, None, is, typed, below, join, typeOf}
 use Rattle.model.specs.Policy.{templates}
-use Rattle.model.specs.Typing.{returnOk, storeOk, encryptOk, decryptOk, decryptType}
+use Rattle.model.specs.Typing.{returnOk, storeOk, encryptOk, decryptOk, decryptType, deriveOk, seedTypes, seedGives, deriveType}
 use Rattle.model.specs.Token.{guardsGenerated, guardsStored}
+use Rattle.model.proofs.Lists.{all-getD}
 use Rattle.model.proofs.Tests.{apply, apply₂, apply₃, atAll, each, each₂, each₃, each₅, every-in-range}
 
 -- ---- the types of an encryption and of an undone encryption, from those of message and key, by the rules themselves
@@ -19,6 +20,13 @@ encType r m k = cond (encryptOk r m k) Un None
 
 abbrev pub decType : Ty → Ty → Ty → Ty
 decType r m k = cond (decryptOk m k) (decryptType r k) None
+
+-- and of what is derived, from that of what it is derived from; z is what a seed gives
+abbrev derived : Ty → Ty → Ty
+derived z k = cond (deriveOk k) (cond (is k Seed) z Un) None
+
+abbrev pub divType : ℕ → Ty → Ty
+divType l k = derived (seedGives l) k
 
 -- m and k are the types of message and key, x and y the static types above them
 
@@ -44,6 +52,18 @@ undo-sound r m k x y =
     (λ r m k x y. implies (below (encType r m k) x) (implies (below k y) (implies (decryptOk x y) (below m (decryptType r y)))))
     tt r m k x y)
 
+-- what a seed gives has a type, whatever the label
+seed-gives-typed : (l : ℕ) → T (typed (seedGives l))
+seed-gives-typed l = all-getD (λ z. T (typed z)) seedTypes l _ (tt, (tt, tt)) tt
+
+pub derive-sound : (l : ℕ) (k y : Ty) → T (below k y) → T (deriveOk y) → T (below (divType l k) (deriveType l y))
+derive-sound l k y =
+    apply₃ (typed (seedGives l)) (below k y) (deriveOk y) (below (divType l k) (deriveType l y))
+    (each₃
+    (λ z k y. implies (typed z) (implies (below k y) (implies (deriveOk y) (below (derived z k) (cond (is y Seed) z Un)))))
+    tt (seedGives l) k y)
+    (seed-gives-typed l)
+
 -- what has a type has parts that have one
 pub enc-parts-typed : (r m k : Ty) → T (typed (encType r m k)) → T (typed m && typed k)
 enc-parts-typed r m k =
@@ -54,6 +74,17 @@ pub dec-parts-typed : (r m k : Ty) → T (typed (decType r m k)) → T (typed m 
 dec-parts-typed r m k =
     apply (typed (decType r m k)) (typed m && typed k)
     (each₃ (λ r m k. implies (typed (decType r m k)) (typed m && typed k)) tt r m k)
+
+pub div-part-typed : (l : ℕ) (k : Ty) → T (typed (divType l k)) → T (typed k)
+div-part-typed l k =
+    apply (typed (divType l k)) (typed k) (each₂ (λ z k. implies (typed (derived z k)) (typed k)) tt (seedGives l) k)
+
+-- what is derived from a value that is not Un is not Un
+pub derived-not-open : (l : ℕ) (k : Ty) → T (not (is k Un)) → T (not (is (divType l k) Un))
+derived-not-open l k =
+    apply₂ (not (is (seedGives l) Un)) (not (is k Un)) (not (is (divType l k) Un))
+    (each₂ (λ z k. implies (not (is z Un)) (implies (not (is k Un)) (not (is (derived z k) Un)))) tt (seedGives l) k)
+    (all-getD (λ z. T (not (is z Un))) seedTypes l _ (tt, (tt, tt)) tt)
 
 -- ---- return, store and get
 

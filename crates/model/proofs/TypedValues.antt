@@ -1,4 +1,4 @@
--- The type of a value, from the types that its atoms were given when they were made; lists of things that are all right.
+-- The type of a value, from the types that its atoms were given when they were made.
 -- Assumes nothing.
 use Prim.Native.Nat.{ℕ, zero, suc, _<_}
 use mathlib.Core.Path.{_≡_, refl, sym, ap, ap₂, subst, _∙_}
@@ -6,16 +6,16 @@ use mathlib.Core.Bool.{Bool, true, false, cond, decide}
 use mathlib.Core.List.{List, [], _∷_, _++_}
 use native.Mathlib.Omega.{arith}
 use native.Mathlib.Decide.{ℕ-discrete}
-use lib.Dec.{T, eqb, ltb, eqb→eq, eqb-refl, ltb→lt, lt→ltb}
+use lib.Dec.{T, eqb, eqb→eq, eqb-refl}
 use lib.ListN.{getD, length, replicate}
-use Rattle.model.specs.Basics.{All, indexBy, some}
+use Rattle.model.specs.Basics.{All}
 use Rattle.model.specs.Types.{Ty, Un, None, typed, below}
 use Rattle.model.specs.Typing.{decryptOk, decryptType, typeAt}
-use Rattle.model.specs.Value.{Value, const, fresh, enc, dec, same, decrypt, value-discrete, valueAt}
+use Rattle.model.specs.Value.{Value, const, fresh, enc, dec, div, same, decrypt, value-discrete, valueAt}
 use Rattle.model.specs.Session.{Finished, outcomesOf}
 use Rattle.model.proofs.Tests.{and-left, and-right, and-both}
 use Rattle.model.proofs.TypeOrder.{below-typed}
-use Rattle.model.proofs.TypeRules.{encType, decType, decrypt-sound, undo-sound, enc-parts-typed, dec-parts-typed}
+use Rattle.model.proofs.TypeRules.{encType, decType, divType, decrypt-sound, undo-sound, enc-parts-typed, dec-parts-typed, div-part-typed}
 
 -- ---- equal values
 
@@ -27,35 +27,6 @@ decided (no f) t = absurd t
 pub same-equal : (v w : Value) → T (same v w) → v ≡ w
 unfolding same
 same-equal v w t = decided (value-discrete ℕ-discrete v w) t
-
--- ---- every element of a list
-
-pub all-map : {A : Type 0} (P Q : A → Type 0) → ((a : A) → P a → Q a) → (l : List A) → All P l → All Q l
-all-map P Q f [] h = tt
-all-map P Q f (x ∷ xs) h = (f x (h .0), all-map P Q f xs (h .1))
-
-pub all-snoc : {A : Type 0} (P : A → Type 0) (l : List A) (x : A) → All P l → P x → All P (l ++ x ∷ [])
-all-snoc P [] x h p = (p, tt)
-all-snoc P (y ∷ ys) x h p = (h .0, all-snoc P ys x (h .1) p)
-
-pub all-getD : {A : Type 0} (P : A → Type 0) (l : List A) (i : ℕ) (d : A) → All P l → P d → P (getD l i d)
-all-getD P [] i d h p = p
-all-getD P (x ∷ xs) zero d h p = h .0
-all-getD P (x ∷ xs) (suc i) d h p = all-getD P xs i d (h .1) p
-
-pub all-append : {A : Type 0} (P : A → Type 0) (l m : List A) → All P (l ++ m) → All P l × All P m
-all-append P [] m h = (tt, h)
-all-append P (x ∷ xs) m h = let r = all-append P xs m (h .1) in ((h .0, r .0), r .1)
-
--- where what holds of every element keeps it from passing a test, none passes
-pub none-passes : {A : Type 0} (P : A → Type 0) (q : A → Bool) → ((a : A) → P a → T (q a) → ⊥) → (l : List A) → All P l → T (some q l) → ⊥
-unfolding indexBy
-none-passes P q f [] h t = t
-none-passes P q f (x ∷ xs) h t = go (q x) (f x (h .0)) (none-passes P q f xs (h .1)) t
-  where
-    go : (b : Bool) → (T b → ⊥) → (T (some q xs) → ⊥) → T (ltb (cond b zero (suc (indexBy q xs))) (suc (length xs))) → ⊥
-    go true here later t = here tt
-    go false here later t = later (lt→ltb (indexBy q xs) (length xs) (let l = ltb→lt (suc (indexBy q xs)) (suc (length xs)) t in omega arith))
 
 pub outcomes-snoc : (fs : List Finished) (f : Finished) → outcomesOf (fs ++ f ∷ []) ≡ outcomesOf fs ++ f .outcome ∷ []
 outcomes-snoc [] f = refl
@@ -109,6 +80,7 @@ typeIn Θ r (const n) = Un
 typeIn Θ r (fresh n) = Θ n
 typeIn Θ r (enc v k) = encType r (typeIn Θ r v) (typeIn Θ r k)
 typeIn Θ r (dec v k) = decType r (typeIn Θ r v) (typeIn Θ r k)
+typeIn Θ r (div l v) = divType l (typeIn Θ r v)
 
 pub type-kept : (Θ Θ′ : Births) (r : Ty) → Later Θ Θ′ → (v : Value) → T (typed (typeIn Θ r v)) → typeIn Θ′ r v ≡ typeIn Θ r v
 type-kept Θ Θ′ r e (const n) h = refl
@@ -121,6 +93,7 @@ type-kept Θ Θ′ r e (dec v k) h =
     let both = dec-parts-typed r (typeIn Θ r v) (typeIn Θ r k) h in
     ap₂ (decType r) (type-kept Θ Θ′ r e v (and-left (typed (typeIn Θ r v)) (typed (typeIn Θ r k)) both))
     (type-kept Θ Θ′ r e k (and-right (typed (typeIn Θ r v)) (typed (typeIn Θ r k)) both))
+type-kept Θ Θ′ r e (div l v) h = ap (divType l) (type-kept Θ Θ′ r e v (div-part-typed l (typeIn Θ r v) h))
 
 -- the value has a type, and it is below τ
 abbrev pub Has : Births → Ty → Value → Ty → Type 0
@@ -148,6 +121,9 @@ decrypt-has Θ r hr (enc v l) k x y hv hk ok = go (same l k) (λ t. same-equal l
 decrypt-has Θ r hr (dec v l) k x y hv hk ok =
     decrypt-sound r (typeIn Θ r (dec v l)) (typeIn Θ r k) x y hr
     (and-both (below (typeIn Θ r (dec v l)) x) (below (typeIn Θ r k) y) hv hk) ok
+decrypt-has Θ r hr (div l v) k x y hv hk ok =
+    decrypt-sound r (typeIn Θ r (div l v)) (typeIn Θ r k) x y hr
+    (and-both (below (typeIn Θ r (div l v)) x) (below (typeIn Θ r k) y) hv hk) ok
 
 -- ---- the values of a call have its static types, each at its place
 

@@ -6,13 +6,12 @@ use mathlib.Core.Bool.{Bool, true, false, cond, _&&_}
 use mathlib.Core.List.{List, [], _∷_, _++_}
 use native.Mathlib.Omega.{arith}
 use lib.Dec.{T, eqb, ltb, leb, eqb→eq, ltb→lt, leb→le, lt→ltb, le→leb}
-use borrow.Author.Tests.{ne-eqb}
 use lib.ListN.{length, drop, length-append, length-drop}
 use Rattle.model.specs.Basics.{_else_then_, every}
 use Rattle.model.specs.Step.{Command}
 use Rattle.model.specs.Session.{Arg, constant, ofLine, Line}
 use Rattle.model.specs.Text.{TextLine, linesOf, isDigit, digitValue, inPairs, wellWritten, bytesOf, numberFrom}
-use Rattle.model.specs.Frame.{File, Reading, nothingRead, Kind, policyKind, commandKind, lineKind, otherKind, kindOf, byteAt, stepsOf, stepFormed, returnsLast, commandOf, commandFormed, namesMade, argOf, argsOf, lineBy, lineOf, computeFormed, lineFormed, lineNames, inPlace, bodyRefusal, frameRefusal, withFrame}
+use Rattle.model.specs.Frame.{File, Reading, nothingRead, Kind, policyKind, commandKind, lineKind, otherKind, kindOf, byteAt, stepsOf, stepFormed, returnsLast, commandOf, commandFormed, namesMade, argOf, argsOf, lineBy, lineOf, headFits, lineFormed, lineNames, inPlace, bodyRefusal, frameRefusal, withFrame}
 use Rattle.model.specs.File.{Parsed, refused, file, lineRefusal, afterFrame, unlessRefused, parseFrom, parse}
 use Rattle.model.specs.Tables.{commandRead, argRead, argsOfLine, lineRead, linesRead, hasOperands, WellRead}
 use Rattle.model.proofs.Tests.{and-left, and-right, and-both, met}
@@ -78,7 +77,8 @@ args-read (x ∷ y ∷ rest) h =
 args-of-line : (k c : ℕ) (args : List Arg) → argsOfLine (lineBy k c args) ≡ args
 args-of-line zero c args = refl
 args-of-line (suc zero) c args = refl
-args-of-line (suc (suc k)) c args = refl
+args-of-line (suc (suc zero)) c args = refl
+args-of-line (suc (suc (suc k))) c args = refl
 
 lines-read-snoc : (cs : List Command) (n : ℕ) (ls : List Line) (l : Line) → T (linesRead cs n ls) → T (lineRead cs (n + length ls) l)
     → T (linesRead cs n (ls ++ l ∷ []))
@@ -117,22 +117,6 @@ command-read f formed named =
     (and-right (params && some-step && few && long && every stepFormed steps) (returnsLast steps) formed))
     named
 
-line-read : (f : List ℕ) (cs : List Command) (n : ℕ) → T (every small f) → T (lineFormed f) → T (lineNames cs n (lineOf f)) → T (lineRead cs n (lineOf f))
-line-read f cs n bytes formed named =
-    let args = argsOf (drop 4 f) in
-    let kind : Bool = leb (byteAt f 1) 2 in
-    let few : Bool = leb (byteAt f 3) 4 in
-    let long : Bool = eqb (length f) (4 + 2 * byteAt f 3) in
-    let sized = and-left (kind && few && long) (cond (eqb (byteAt f 1) 0) true (computeFormed f)) formed in
-    let exact = eqb→eq (length f) (4 + 2 * byteAt f 3) (and-right (kind && few) long sized) in
-    let four = leb→le (byteAt f 3) 4 (and-right kind few (and-left (kind && few) long sized)) in
-    let few-args : length args ≤ 4 = omega (arith, args-of-two (drop 4 f), length-drop 4 f) in
-    let same-args = args-of-line (byteAt f 1) (byteAt f 2) args in
-    and-both (leb (length (argsOfLine (lineOf f))) 4 && every argRead (argsOfLine (lineOf f))) (lineNames cs n (lineOf f))
-    (subst (λ (as′ : List Arg). T (leb (length as′) 4 && every argRead as′)) (sym same-args)
-    (and-both (leb (length args) 4) (every argRead args) (le→leb (length args) 4 few-args) (args-read (drop 4 f) (every-drop small 4 f bytes))))
-    named
-
 args-of-pairs : (n : ℕ) (part : List ℕ) → length part ≡ 2 * n → length (argsOf part) ≡ n
 unfolding argsOf
 args-of-pairs zero [] e = refl
@@ -141,24 +125,32 @@ args-of-pairs (suc n) [] e = absurd (omega arith)
 args-of-pairs (suc n) (x ∷ []) e = absurd (omega arith)
 args-of-pairs (suc n) (x ∷ y ∷ rest) e = let rest-paired = args-of-pairs n rest (omega arith) in omega arith
 
-operands-read : (f : List ℕ) → T (lineFormed f) → T (hasOperands (lineOf f))
-operands-read f formed =
-    let sized : Bool = leb (byteAt f 1) 2 && leb (byteAt f 3) 4 && eqb (length f) (4 + 2 * byteAt f 3) in
-    let long = eqb→eq (length f) (4 + 2 * byteAt f 3)
-    (and-right (leb (byteAt f 1) 2 && leb (byteAt f 3) 4) (eqb (length f) (4 + 2 * byteAt f 3))
-    (and-left sized (cond (eqb (byteAt f 1) 0) true (computeFormed f)) formed)) in
-    by-kind (byteAt f 1) (and-right sized (cond (eqb (byteAt f 1) 0) true (computeFormed f)) formed) (λ two.
-    args-of-pairs 2 (drop 4 f) (omega (arith, length-drop 4 f)))
-  where
-    two-operands : T (computeFormed f) → (byteAt f 3 ≡ 2 → length (argsOf (drop 4 f)) ≡ 2) → T (eqb (length (argsOf (drop 4 f))) 2)
-    two-operands t counted =
-        rw (counted (eqb→eq (byteAt f 3) 2 (and-right (eqb (byteAt f 2) 0) (eqb (byteAt f 3) 2) t))) tt
+-- the operands that the kind asks for, as many as the count says
+operands-read : (k c n : ℕ) (args : List Arg) → length args ≡ n → T (headFits k c n) → T (hasOperands (lineBy k c args))
+operands-read zero c n args counted t = tt
+operands-read (suc zero) c n args counted t = rw counted (and-right (eqb c 0) (eqb n 2) t)
+operands-read (suc (suc zero)) c n args counted t = rw counted (and-right (eqb c 0) (eqb n 2) t)
+operands-read (suc (suc (suc k))) c n args counted t = rw counted t
 
-    by-kind : (k : ℕ) → T (cond (eqb k 0) true (computeFormed f)) → (byteAt f 3 ≡ 2 → length (argsOf (drop 4 f)) ≡ 2)
-        → T (hasOperands (lineBy k (byteAt f 2) (argsOf (drop 4 f))))
-    by-kind zero t counted = tt
-    by-kind (suc zero) t counted = two-operands t counted
-    by-kind (suc (suc k)) t counted = two-operands (rw (ne-eqb (suc (suc k)) 0 (λ q. omega arith)) at t) counted
+line-read : (f : List ℕ) (cs : List Command) (n : ℕ) → T (every small f) → T (lineFormed f) → T (lineNames cs n (lineOf f)) → T (lineRead cs n (lineOf f))
+line-read f cs n bytes formed named =
+    let args = argsOf (drop 4 f) in
+    let kind : Bool = leb (byteAt f 1) 3 in
+    let few : Bool = leb (byteAt f 3) 4 in
+    let long : Bool = eqb (length f) (4 + 2 * byteAt f 3) in
+    let fits : Bool = headFits (byteAt f 1) (byteAt f 2) (byteAt f 3) in
+    let sized = and-left (kind && few && long) fits formed in
+    let exact = eqb→eq (length f) (4 + 2 * byteAt f 3) (and-right (kind && few) long sized) in
+    let four = leb→le (byteAt f 3) 4 (and-right kind few (and-left (kind && few) long sized)) in
+    let counted : length args ≡ byteAt f 3 = args-of-pairs (byteAt f 3) (drop 4 f) (omega (arith, length-drop 4 f)) in
+    let same-args = args-of-line (byteAt f 1) (byteAt f 2) args in
+    let small-args : Bool = leb (length (argsOfLine (lineOf f))) 4 && every argRead (argsOfLine (lineOf f)) in
+    and-both (small-args && lineNames cs n (lineOf f)) (hasOperands (lineOf f))
+    (and-both small-args (lineNames cs n (lineOf f))
+    (subst (λ (as′ : List Arg). T (leb (length as′) 4 && every argRead as′)) (sym same-args)
+    (and-both (leb (length args) 4) (every argRead args) (le→leb (length args) 4 (omega arith)) (args-read (drop 4 f) (every-drop small 4 f bytes))))
+    named)
+    (operands-read (byteAt f 1) (byteAt f 2) (byteAt f 3) args counted (and-right (kind && few && long) fits formed))
 
 after-policy : (c : Reading) (f : List ℕ) → Sound c → T (eqb (c .place) 0) → Sound (withFrame (c .file) policyKind f)
 after-policy c f s placed = record {
@@ -167,7 +159,6 @@ after-policy c f s placed = record {
     few-lines = s .well-read .few-lines;
     commands-read = s .well-read .commands-read;
     lines-read = s .well-read .lines-read;
-    operands-read = s .well-read .operands-read;
   };
   no-lines-yet = λ _. let start = eqb→eq (c .place) 0 placed in s .no-lines-yet (omega arith);
 }
@@ -189,7 +180,6 @@ after-command c f s placed e =
         commands-read = every-snoc commandRead (c .file .commands) (commandOf f) (s .well-read .commands-read)
             (command-read f (formed .0) (named .0));
         lines-read = subst (λ (ls : List Line). T (linesRead (c .file .commands ++ commandOf f ∷ []) 0 ls)) (sym none-yet) tt;
-        operands-read = s .well-read .operands-read;
       };
       no-lines-yet = λ _. none-yet;
     }
@@ -209,7 +199,6 @@ after-line c f s bytes e =
         lines-read = lines-read-snoc (c .file .commands) 0 (c .file .lines) (lineOf f) (s .well-read .lines-read)
             (subst (λ (m : ℕ). T (lineRead (c .file .commands) m (lineOf f))) (let e : n ≡ 0 + n = omega arith in e)
             (line-read f (c .file .commands) n bytes (formed .0) (named .0)));
-        operands-read = every-snoc hasOperands (c .file .lines) (lineOf f) (s .well-read .operands-read) (operands-read f (formed .0));
       };
       no-lines-yet = λ l. absurd (omega arith);
     }
@@ -251,7 +240,7 @@ taken-from (l ∷ ls) k c s =
 nothing-sound : Sound nothingRead
 unfolding linesRead
 nothing-sound = record {
-  well-read = record { few-commands = omega arith; few-lines = omega arith; commands-read = tt; lines-read = tt; operands-read = tt };
+  well-read = record { few-commands = omega arith; few-lines = omega arith; commands-read = tt; lines-read = tt };
   no-lines-yet = λ _. refl;
 }
 

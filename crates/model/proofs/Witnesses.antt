@@ -185,17 +185,107 @@ keyCycleOutput =
     ∷ "8300ffff"
     ∷ []
 
+-- The key diversification of source 002, section 4, with its policy: all templates of the types Seed, Any, Data and Un; r Seed. Commands
+-- 0 to 4: generate a seed, encrypt and decrypt under its data key, wrap a seed under another one's wrapping key, unwrap. Lines 0 to 6: of
+-- two seeds the one is wrapped out under the other and unwrapped back, and decrypts what it had encrypted. Lines 7 to 11: wrap-then-decrypt,
+-- unwrapping of data, and the attacker's own derivation, to no avail.
+abbrev pub diversification : List String
+diversification =
+    "0104bbb3bbb3bbb3333b"
+    ∷ "0200020200000300000000"
+    ∷ "02020401010003060002000400030000040000"
+    ∷ "02020401010003060002000500030000040000"
+    ∷ "0202050101000301000003060002010403040000050000"
+    ∷ "0202050101000306000201050003000304000300050000"
+    ∷ "03000000"
+    ∷ "03000000"
+    ∷ "0300010280050000"
+    ∷ "0300020200020000"
+    ∷ "0300030200000001"
+    ∷ "0300040200040001"
+    ∷ "0300020200020005"
+    ∷ "0300020200040001"
+    ∷ "0300010280060001"
+    ∷ "0300040200080001"
+    ∷ "030301010004"
+    ∷ "030200020004000a"
+    ∷ []
+
+abbrev pub diversificationOutput : List String
+diversificationOutput =
+    "8100000000"
+    ∷ "820000000000000100"
+    ∷ "820001000002000200"
+    ∷ "820002000006000200"
+    ∷ "820003000004000200"
+    ∷ "820004000008000200"
+    ∷ "820005000009000300"
+    ∷ "820006000004000300"
+    ∷ "82000700000b000300"
+    ∷ "82000800000d000300"
+    ∷ "82000900000f000400"
+    ∷ "82000a000010000400"
+    ∷ "82000b000011000400"
+    ∷ "8300ffff"
+    ∷ []
+
+-- A seed diversified into a data key and a wrapping key that are stored: data under the one, the one under the other and back, and the
+-- attacker's own derivations from what is held. r is TData.
+abbrev pub derivedKeys : List String
+derivedKeys =
+    "01010008000000808000"
+    ∷ "0200020200001700000000"
+    ∷ "02010401000017060001000302000f00030000"
+    ∷ "02010401000017060001010302003300030000"
+    ∷ "0202030100000f0401020000030000"
+    ∷ "0202030100000f0501020000030000"
+    ∷ "0202040100000f010100330402030000040000"
+    ∷ "02020401010033050002000303000f00040000"
+    ∷ "03000000"
+    ∷ "030001010000"
+    ∷ "030002010000"
+    ∷ "0300030200018005"
+    ∷ "0300040200010003"
+    ∷ "0300050200010002"
+    ∷ "0300060200050002"
+    ∷ "0300040200060003"
+    ∷ "030001010000"
+    ∷ "0300030200088006"
+    ∷ "030300018005"
+    ∷ "030301010005"
+    ∷ []
+
+abbrev pub derivedKeysOutput : List String
+derivedKeysOutput =
+    "8100000000"
+    ∷ "820000000000000100"
+    ∷ "820001000003000200"
+    ∷ "820002000005000300"
+    ∷ "820003000007000300"
+    ∷ "820004000006000300"
+    ∷ "820005000008000300"
+    ∷ "820006000009000400"
+    ∷ "820007000006000400"
+    ∷ "82000800000a000500"
+    ∷ "82000900000c000500"
+    ∷ "82000a00000d000500"
+    ∷ "82000b00000e000500"
+    ∷ "8300ffff"
+    ∷ []
+
 abbrev pub acceptedConfigurations : List Case
 acceptedConfigurations =
     answered (text keySeparation) keySeparationOutput
     ∷ answered (text secureTemplates) secureTemplatesOutput
     ∷ answered (text imports) importsOutput
     ∷ answered (text keyCycle) keyCycleOutput
+    ∷ answered (text diversification) diversificationOutput
+    ∷ answered (text derivedKeys) derivedKeysOutput
     ∷ []
 
 pub accepted-and-flat : AllHold acceptedConfigurations
 unfolding opened
-accepted-and-flat = (refl, (refl, (refl, (refl, tt))))
+accepted-and-flat = (refl, (refl, (refl, (refl, (refl, (refl, tt))))))
 
 -- ---- teeth
 
@@ -299,8 +389,22 @@ teeth =
           ∷ "030001010000"
           ∷ [];
     }
+    -- from a key that may be a seed what another command keeps as a data key is derived, and returned
+    ∷ record {
+      rule = 23;
+      line = 2;
+      input =
+          "01020000000000800080"
+          ∷ "0200020200001700000000"
+          ∷ "02010401000017060001000302000700030000"
+          ∷ "020103010000010600010000020000"
+          ∷ "03000000"
+          ∷ "030001010000"
+          ∷ "030002010000"
+          ∷ [];
+    }
     ∷ []
 
 pub all-bite : AllBite teeth
 unfolding opened
-all-bite = ((refl, refl), ((refl, refl), ((refl, refl), ((refl, refl), ((refl, refl), tt)))))
+all-bite = ((refl, refl), ((refl, refl), ((refl, refl), ((refl, refl), ((refl, refl), ((refl, refl), tt))))))

@@ -7,7 +7,7 @@ use lib.Dec.{eqb, ltb, leb}
 use lib.ListN.{getD, length, drop}
 use Rattle.model.specs.Basics.{_else_then_, every}
 use Rattle.model.specs.Types.{Un, typeOfCode}
-use Rattle.model.specs.Step.{ops, opOf, Use, nothing, value, attributes, fieldsOf, Encrypt, Decrypt, Command}
+use Rattle.model.specs.Step.{ops, opOf, Use, nothing, value, attributes, label, fieldsOf, Encrypt, Decrypt, Derive, Command}
 use Rattle.model.specs.Policy.{Policy, lawful}
 use Rattle.model.specs.Token.{commandAt}
 use Rattle.model.specs.Session.{Arg, constant, ofLine, Line, calls, computes}
@@ -37,15 +37,16 @@ stepsOf (o ∷ x ∷ y ∷ z ∷ rest) = record { op = o; a = x; b = y; t = z } 
 abbrev pub commandOf : List ℕ → Command
 commandOf f = record { params = byteAt f 1; steps = stepsOf (drop 3 f) }
 
--- a field that is not used is 0, and a set of attributes is below 64
+-- a field that is not used is 0, a set of attributes is below 64, and a label is 0 or 1
 abbrev pub fieldFormed : Use → ℕ → Bool
 fieldFormed nothing x = eqb x 0
 fieldFormed value x = true
 fieldFormed attributes x = ltb x 64
+fieldFormed label x = ltb x 2
 
 abbrev pub stepFormed : Step → Bool
 stepFormed s =
-    ltb (s .op) (length ops)
+    ltb (s .op) (length (ops (s .t)))
     && fieldFormed (fieldsOf (opOf s) .a) (s .a)
     && fieldFormed (fieldsOf (opOf s) .b) (s .b)
     && fieldFormed (fieldsOf (opOf s) .t) (s .t)
@@ -70,6 +71,7 @@ abbrev pub fieldNames : ℕ → Use → ℕ → Bool
 fieldNames n nothing x = true
 fieldNames n value x = ltb x n
 fieldNames n attributes x = true
+fieldNames n label x = true
 
 abbrev pub stepNames : ℕ → Step → Bool
 stepNames n s = fieldNames n (fieldsOf (opOf s) .a) (s .a) && fieldNames n (fieldsOf (opOf s) .b) (s .b)
@@ -89,24 +91,29 @@ argsOf [] = []
 argsOf (x ∷ []) = []
 argsOf (x ∷ y ∷ rest) = argOf (numberFrom 0 (x ∷ y ∷ [])) ∷ argsOf rest
 
--- kind 0 calls a command, 1 encrypts, 2 decrypts; there is no kind above
+-- kind 0 calls a command, 1 encrypts, 2 decrypts, 3 derives under the label in the command's place; there is no kind above
 abbrev pub lineBy : ℕ → ℕ → List Arg → Line
 lineBy zero c args = calls c args
 lineBy (suc zero) c args = computes Encrypt args
-lineBy (suc (suc k)) c args = computes Decrypt args
+lineBy (suc (suc zero)) c args = computes Decrypt args
+lineBy (suc (suc (suc k))) c args = computes (Derive c) args
 
 abbrev pub lineOf : List ℕ → Line
 lineOf f = lineBy (byteAt f 1) (byteAt f 2) (argsOf (drop 4 f))
 
-abbrev pub computeFormed : List ℕ → Bool
-computeFormed f = eqb (byteAt f 2) 0 && eqb (byteAt f 3) 2
+-- the command's place and the argument count, by the kind
+abbrev pub headFits : ℕ → ℕ → ℕ → Bool
+headFits zero c n = true
+headFits (suc zero) c n = eqb c 0 && eqb n 2
+headFits (suc (suc zero)) c n = eqb c 0 && eqb n 2
+headFits (suc (suc (suc k))) c n = ltb c 2 && eqb n 1
 
 abbrev pub lineFormed : List ℕ → Bool
 lineFormed f =
-    leb (byteAt f 1) 2
+    leb (byteAt f 1) 3
     && leb (byteAt f 3) 4
     && eqb (length f) (4 + 2 * byteAt f 3)
-    && cond (eqb (byteAt f 1) 0) true (computeFormed f)
+    && headFits (byteAt f 1) (byteAt f 2) (byteAt f 3)
 
 -- an argument is a constant or one of the n lines before
 abbrev pub argNames : ℕ → Arg → Bool

@@ -4,9 +4,10 @@ use mathlib.Core.List.{List, [], _∷_}
 use lib.ListN.{getD}
 use Rattle.model.specs.declared.Step.{Step}
 
--- what is computed from values alone, by a step or by a line of the session
+-- what is computed from values alone, by a step or by a line of the session; a derivation has a label
 pub data Operation : Type 0 where
   Encrypt Decrypt : Operation
+  Derive : ℕ → Operation
 
 -- what a step does; reading lets no step through whose op is unknown
 pub data Op : Type 0 where
@@ -14,16 +15,16 @@ pub data Op : Type 0 where
   Compute : Operation → Op
   Unknown : Op
 
--- the ops by their numbers, from 0
-abbrev pub ops : List Op
-ops = Return ∷ Get ∷ Generate ∷ Store ∷ Compute Encrypt ∷ Compute Decrypt ∷ []
+-- the ops by their numbers, from 0, where field t is the given one
+abbrev pub ops : ℕ → List Op
+ops t = Return ∷ Get ∷ Generate ∷ Store ∷ Compute Encrypt ∷ Compute Decrypt ∷ Compute (Derive t) ∷ []
 
 abbrev pub opOf : Step → Op
-opOf s = getD ops (s .op) Unknown
+opOf s = getD (ops (s .t)) (s .op) Unknown
 
--- what an op has in a field: nothing, the number of a value, or a set of attributes
+-- what an op has in a field: nothing, the number of a value, a set of attributes, or a label
 pub data Use : Type 0 where
-  nothing value attributes : Use
+  nothing value attributes label : Use
 
 pub record Fields : Type 0 where
   pub a : Use
@@ -35,7 +36,9 @@ fieldsOf Return = record { a = value; b = nothing; t = nothing }
 fieldsOf Get = record { a = value; b = nothing; t = attributes }
 fieldsOf Generate = record { a = nothing; b = nothing; t = attributes }
 fieldsOf Store = record { a = value; b = nothing; t = attributes }
-fieldsOf (Compute o) = record { a = value; b = value; t = nothing }
+fieldsOf (Compute Encrypt) = record { a = value; b = value; t = nothing }
+fieldsOf (Compute Decrypt) = record { a = value; b = value; t = nothing }
+fieldsOf (Compute (Derive l)) = record { a = nothing; b = value; t = label }
 fieldsOf Unknown = record { a = nothing; b = nothing; t = nothing }
 
 -- a command: how many parameters it has, and its steps; value i is parameter i, or made by step i - params

@@ -7,8 +7,8 @@ use lib.Dec.{T, eqb, ltb, leb}
 use lib.ListN.{length, replicate}
 use Rattle.model.specs.Basics.{All, every}
 use Rattle.model.specs.Types.{codeOf}
-use Rattle.model.specs.Step.{Command, Encrypt, Decrypt}
-use Rattle.model.specs.Value.{Value, const, fresh, enc, dec, rowOf, valueAt}
+use Rattle.model.specs.Step.{Operation, Command, Encrypt, Decrypt, Derive}
+use Rattle.model.specs.Value.{Value, const, fresh, enc, dec, div, rowOf, valueAt}
 use Rattle.model.specs.Token.{Key, Room}
 use Rattle.model.specs.Session.{Arg, constant, ofLine, Line, calls, computes, Finished, Flat, run}
 use Rattle.model.specs.Frame.{File, stepFormed, returnsLast, namesMade, lineNames}
@@ -45,6 +45,7 @@ unfoldable pub headCode : Line → ℕ
 headCode (calls c args) = 256 * c + 65536 * length args
 headCode (computes Encrypt args) = 1 + 65536 * length args
 headCode (computes Decrypt args) = 2 + 65536 * length args
+headCode (computes (Derive l) args) = 3 + 256 * l + 65536 * length args
 
 -- its arguments, sixteen bits each and as in its frame, the first lowest
 abbrev pub argCode : Arg → ℕ
@@ -68,16 +69,18 @@ valueCode rows (const n) = packed 1 0 n
 valueCode rows (fresh n) = packed 2 0 n
 valueCode rows (enc v k) = packed 3 (rowOf v rows) (rowOf k rows)
 valueCode rows (dec v k) = packed 4 (rowOf v rows) (rowOf k rows)
+valueCode rows (div l v) = packed 5 l (rowOf v rows)
 
 unfoldable pub rowCodes : List Value → List ℕ
 rowCodes rows = map (valueCode rows) rows
 
--- a value whose parts have rows below i, and whose own number fits sixteen bits
+-- a value whose parts have rows below i, and whose own number, or label, fits sixteen bits
 abbrev pub PartsBelow : List Value → ℕ → Value → Type 0
 PartsBelow rows i (const n) = n < 65536
 PartsBelow rows i (fresh n) = n < 65536
 PartsBelow rows i (enc v k) = (rowOf v rows < i) × (rowOf k rows < i)
 PartsBelow rows i (dec v k) = (rowOf v rows < i) × (rowOf k rows < i)
+PartsBelow rows i (div l v) = (l < 65536) × (rowOf v rows < i)
 
 -- rows that tell one value each: none twice, and each after its parts
 pub record Rows (rows : List Value) : Type 0 where
@@ -146,25 +149,29 @@ abbrev pub argRead : Arg → Bool
 argRead (constant k) = ltb k 0x8000
 argRead (ofLine i) = true
 
+-- an operation of the attacker's own has its operands, and its label is 0 or 1
+abbrev pub operandsRead : Operation → List Arg → Bool
+operandsRead Encrypt args = eqb (length args) 2
+operandsRead Decrypt args = eqb (length args) 2
+operandsRead (Derive l) args = ltb l 2 && eqb (length args) 1
+
+abbrev pub hasOperands : Line → Bool
+hasOperands (calls c args) = true
+hasOperands (computes o args) = operandsRead o args
+
 -- a line with n lines before it
 abbrev pub lineRead : List Command → ℕ → Line → Bool
-lineRead cs n l = leb (length (argsOfLine l)) 4 && every argRead (argsOfLine l) && lineNames cs n l
+lineRead cs n l = leb (length (argsOfLine l)) 4 && every argRead (argsOfLine l) && lineNames cs n l && hasOperands l
 
 unfoldable pub linesRead : List Command → ℕ → List Line → Bool
 linesRead cs n [] = true
 linesRead cs n (l ∷ ls) = lineRead cs n l && linesRead cs (suc n) ls
-
--- an operation of the attacker's own has its two operands
-abbrev pub hasOperands : Line → Bool
-hasOperands (calls c args) = true
-hasOperands (computes o args) = eqb (length args) 2
 
 pub record WellRead (φ : File) : Type 0 where
   pub few-commands : length (φ .commands) ≤ 32
   pub few-lines : length (φ .lines) ≤ 1024
   pub commands-read : T (every commandRead (φ .commands))
   pub lines-read : T (linesRead (φ .commands) 0 (φ .lines))
-  pub operands-read : T (every hasOperands (φ .lines))
 
 -- what an input with lent tables comes to: their lengths are checked before all else
 unfoldable pub readInto : Tables → List ℕ → Parsed

@@ -1,12 +1,12 @@
--- The verdict: the scope's section "Typing of steps", and its verdict refusals 16 to 22.
+-- The verdict: the scope's section "Typing of steps", and its verdict refusals 16 to 23.
 use Prim.Native.Nat.{ℕ, zero, suc}
 use mathlib.Core.Bool.{Bool, cond, _&&_, _||_}
 use mathlib.Core.List.{List, [], _∷_, _++_}
 use lib.Dec.{ltb}
 use lib.ListN.{getD, length, replicate}
 use Rattle.model.specs.Basics.{_else_then_}
-use Rattle.model.specs.Types.{Ty, Un, Data, Wrap, is, below, typeOf}
-use Rattle.model.specs.Step.{Op, Return, Get, Generate, Store, Compute, Unknown, Encrypt, Decrypt, opOf, Command}
+use Rattle.model.specs.Types.{Ty, Un, TData, Data, Wrap, Seed, is, below, typeOf}
+use Rattle.model.specs.Step.{Op, Return, Get, Generate, Store, Compute, Unknown, Encrypt, Decrypt, Derive, opOf, Command}
 use Rattle.model.specs.Policy.{Policy, allows, offered, getType}
 use Rattle.model.specs.declared.Step.{Step}
 use Rattle.model.specs.declared.Verdict.{Verdict}
@@ -34,6 +34,21 @@ decryptOk x y = is x Un && (is y Wrap || below y Data)
 abbrev pub decryptType : Ty → Ty → Ty
 decryptType r y = cond (is y Wrap) r Un
 
+-- from a seed, or from what is public, and from nothing else
+abbrev pub deriveOk : Ty → Bool
+deriveOk y = is y Seed || is y Un
+
+-- what a seed gives, by the label; reading lets no label above 1 through
+abbrev pub seedTypes : List Ty
+seedTypes = TData ∷ Wrap ∷ []
+
+abbrev pub seedGives : ℕ → Ty
+seedGives l = getD seedTypes l Wrap
+
+-- what is public gives what is public
+abbrev pub deriveType : ℕ → Ty → Ty
+deriveType l y = cond (is y Seed) (seedGives l) Un
+
 -- the number of the first rule that a step breaks, or 0
 abbrev pub refusal : Policy → Op → Step → Ty → Ty → ℕ
 refusal p Return s x y = returnOk x else 21 then 0
@@ -42,6 +57,7 @@ refusal p Generate s x y = allows (p .allowing) (s .t) else 16 then 0
 refusal p Store s x y = allows (p .allowing) (s .t) else 16 then storeOk x (typeOf (s .t)) else 20 then 0
 refusal p (Compute Encrypt) s x y = encryptOk (p .transported) x y else 18 then 0
 refusal p (Compute Decrypt) s x y = decryptOk x y else 19 then 0
+refusal p (Compute (Derive l)) s x y = deriveOk y else 23 then 0
 refusal p Unknown s x y = 4
 
 -- the type of the value that a step gives; a handle is Un, and so is a ciphertext
@@ -52,6 +68,7 @@ gives p Generate s x y = Un
 gives p Store s x y = Un
 gives p (Compute Encrypt) s x y = Un
 gives p (Compute Decrypt) s x y = decryptType (p .transported) y
+gives p (Compute (Derive l)) s x y = deriveType l y
 gives p Unknown s x y = Un
 
 -- the same at the types g of the values so far

@@ -13,7 +13,7 @@ use borrow.Author.Tests.{lt-ltb, le-ltb}
 use Rattle.model.specs.Basics.{All, indexBy, some}
 use Rattle.model.specs.Value.{Value, const, same, isConst, rowOf, present, valueAt}
 use Rattle.model.specs.Session.{Outcome, value, none, isValue, inHand, breached}
-use Rattle.model.proofs.TypedValues.{all-map, all-snoc, none-passes}
+use Rattle.model.proofs.Lists.{all-map, all-snoc, none-passes}
 use Rattle.model.specs.Tables.{Rows}
 use Rattle.values.proofs.Present.{same-itself, same-is-equal, present-means-below, value-at-its-row, row-kept, present-kept}
 use Rattle.values.proofs.Rows.{row-at}

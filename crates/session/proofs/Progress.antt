@@ -6,18 +6,18 @@ use mathlib.Core.Bool.{Bool, true, false, cond}
 use mathlib.Core.List.{List, [], _∷_, _++_, map, append-nil}
 use native.Mathlib.Omega.{arith}
 use native.Mathlib.Decide.{decLt}
-use lib.Dec.{T, eqb, ltb, eqb→eq}
+use lib.Dec.{T, eqb, ltb}
 use lib.ListN.{length, getD, take, drop, set, length-append, length-replicate, length-map, List·getD-append, drop-of-length-le}
 use lib.Seq.{drop-cons, length-take-le, getD-take}
 use borrow.Author.Tests.{lt-ltb, le-ltb, ne-eqb}
-use Rattle.model.specs.Basics.{indexBy, every}
-use Rattle.model.specs.Step.{Command, Encrypt, Decrypt}
+use Rattle.model.specs.Basics.{indexBy}
+use Rattle.model.specs.Step.{Command}
 use Rattle.model.specs.Value.{Value, fresh, rowOf, present, valueAt}
 use Rattle.model.specs.Token.{State, empty, Out, gave, ended, stopped, full}
-use Rattle.model.specs.Session.{Line, calls, computes, Outcome, value, none, Finished, outcomesOf, Session, start, finishedAs, finish, rowAfter, Run, afterLine, runLine, runFrom}
+use Rattle.model.specs.Session.{Line, calls, Outcome, value, none, Finished, outcomesOf, Session, start, finishedAs, finish, rowAfter, Run, afterLine, runLine, runFrom}
 use Rattle.model.specs.Frame.{File}
 use Rattle.model.specs.Report.{programRoom, runOf, firstBreach}
-use Rattle.model.specs.Tables.{zeros, padded, Held, WellRead, Rows, rowCodes, keyCode, outcomeCode, headCode, argsCode, argsOfLine, lineRead, linesRead, hasOperands}
+use Rattle.model.specs.Tables.{zeros, padded, Held, WellRead, Rows, rowCodes, keyCode, outcomeCode, headCode, argsCode, argsOfLine, lineRead, linesRead}
 use Rattle.model.proofs.Tests.{and-left, and-right}
 use Rattle.model.proofs.TypedValues.{outcomes-snoc}
 use Rattle.values.proofs.Index.{index-at-most-length, index-kept-by-append, index-goes-on-after}
@@ -26,7 +26,6 @@ use Rattle.values.proofs.Padded.{set-next}
 use Rattle.values.proofs.Present.{present-means-below, row-kept, present-kept}
 use Rattle.token.specs.Carried.{roomOf, countsOf, FewAtoms, Carries, Performs}
 use Rattle.line.specs.Lined.{Rowed, finishedAt, Finishing, LineGiven, LineReady}
-use Rattle.line.specs.Stages.{HasOperands}
 use Rattle.session.specs.Sessioned.{SessionGiven, GuardsBelow, breachedBy, outcomeNumber, earliestOf, SettledIs, FinishReady, FinishedIs, RanIs}
 use Rattle.token.specs.declared.Counts.{Counts}
 use Rattle.token.specs.declared.Outcome.{Outcome as CodeOutcome}
@@ -86,17 +85,6 @@ line-read-at cs n (l ∷ ls) zero d t h =
 line-read-at cs n (l ∷ ls) (suc i) d t h =
     subst (λ (k : ℕ). T (lineRead cs k (getD ls i d))) (let e : suc n + i ≡ n + suc i = omega arith in e)
     (line-read-at cs (suc n) ls i d (and-right (lineRead cs n l) (linesRead cs (suc n) ls) t) (omega arith))
-
-every-at : {A : Type 0} (q : A → Bool) (xs : List A) (i : ℕ) (d : A) → T (every q xs) → i < length xs → T (q (getD xs i d))
-every-at q [] i d t h = absurd (omega arith)
-every-at q (x ∷ xs) zero d t h = and-left (q x) (every q xs) t
-every-at q (x ∷ xs) (suc i) d t h = every-at q xs i d (and-right (q x) (every q xs) t) (omega arith)
-
-operands-in-head : (l : Line) → T (hasOperands l) → HasOperands (headCode l)
-unfolding headCode
-operands-in-head (calls c args) t other = absurd (other (omega arith))
-operands-in-head (computes Encrypt args) t other = let two = eqb→eq (length args) 2 t in omega arith
-operands-in-head (computes Decrypt args) t other = let two = eqb→eq (length args) 2 t in omega arith
 
 -- ---- after i lines
 
@@ -215,11 +203,6 @@ module _ {φ : File} {rows keys guards hand outcomes heads arguments commands st
     given = line-given;
     ready = ready-again (at .carries) (at .few-atoms) (at .counts-are) (omega (arith, fixed .rows-length)) (omega (arith, fixed .keys-length));
   }
-
-  pub line-has-operands : HasOperands (getD heads i 0)
-  line-has-operands =
-      subst HasOperands (sym (entry-of headCode 1024 heads (φ .lines) i noLine (fixed .held .heads-are) within))
-      (operands-in-head l (every-at hasOperands (φ .lines) i noLine (fixed .well-read .operands-read) within))
 
   -- the outcome of the model, in the program's room
   abbrev pub out : Out

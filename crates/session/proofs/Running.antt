@@ -15,13 +15,12 @@ use Rattle.model.specs.Tables.{zeros, headCode, argsCode, argsOfLine}
 use Rattle.values.proofs.Padded.{length-padded}
 use Rattle.token.specs.Carried.{roomOf, countsOf, Tidy, Performs}
 use Rattle.line.specs.Lined.{LineGiven, LineReady}
-use Rattle.line.specs.Stages.{HasOperands}
 use Rattle.session.specs.Sessioned.{SessionGiven, SessionReady, SettleReady, SettledIs, FinishReady, FinishedIs, RanIs, earliestOf}
 use Rattle.token.specs.declared.Counts.{Counts}
 use Rattle.token.specs.declared.Outcome.{Outcome}
 use Rattle.session.specs.declared.Settled.{Settled}
 use Rattle.session.specs.declared.Settled.the-variants as done
-use Rattle.session.proofs.Progress.{out, line-has-operands, At, Fixed, start-at, line-given, line-ready, LineDone, line-done, line-over, finish-ready, next-at, ran-through, ran-over}
+use Rattle.session.proofs.Progress.{out, At, Fixed, start-at, line-given, line-ready, LineDone, line-done, line-over, finish-ready, next-at, ran-through, ran-over}
 
 pub record Running (rows₀ keys₀ heads arguments outcomes₀ commands steps : List ℕ) (m : ℕ) (rows keys outcomes guards hand : List ℕ) (c : Counts) (first i : ℕ) : Type 0 where
   pub short : i ≤ m
@@ -104,11 +103,8 @@ module _ {rows₀ keys₀ heads arguments outcomes₀ commands steps : List ℕ}
   running-end over φ g = ran-through (loop .at φ g) (fixed φ g) over (loop .short)
 
   module _ (more : i < m) where
-    pub running-line : LineReady c rows keys guards outcomes commands steps (getD heads i 0) (getD arguments i 0) × HasOperands (getD heads i 0)
-    running-line =
-        let at = loop .at (ready .φ) (ready .given) in
-        let given = fixed (ready .φ) (ready .given) in
-        (line-ready at given more, line-has-operands at given more)
+    pub running-line : LineReady c rows keys guards outcomes commands steps (getD heads i 0) (getD arguments i 0)
+    running-line = line-ready (loop .at (ready .φ) (ready .given)) (fixed (ready .φ) (ready .given)) more
 
     module _ {o : Outcome} {rows′ keys′ guards′ : List ℕ}
         (line : LinePromise rows keys guards outcomes commands steps c (getD heads i 0) (getD arguments i 0) o rows′ keys′ guards′) where

@@ -11,7 +11,7 @@ use lib.Dec.{ltb}
 use lib.ListN.{length, length-append, List·getD-eq-default}
 use Rattle.model.specs.Step.{Unknown, ops, opOf}
 use Rattle.model.specs.declared.Step.{Step}
-use Rattle.model.specs.Value.{Value, const, fresh, enc, dec, same, decrypt, rowOf, present, valueAt}
+use Rattle.model.specs.Value.{Value, const, fresh, enc, dec, div, same, decrypt, rowOf, present, valueAt}
 use Rattle.model.specs.Token.{State, Room, atMost, gave, ended, stopped, full, withRow, withAtom, appear, newAtom, perform}
 use Rattle.model.specs.Tables.{PartsBelow}
 use Rattle.values.specs.Holds.{answerIn, rowsIn, Appeared}
@@ -44,9 +44,9 @@ module _ {σ : State} {t ks gs : List ℕ} {c : Counts} (C : Carries σ t ks gs)
   pub stops-as-it-is : Performs σ (stopped σ) (Stopped c) t ks gs
   stops-as-it-is = record { answer = ap Stopped count; has-row = tt; atoms-rowed = few; carries = C; extends = extends-refl σ }
 
-  pub unknown-op-stops : (ρ : Room) (s : Step) (v w : Value) → 6 ≤ s .op → Performs σ (perform ρ (opOf s) s v w σ) (Stopped c) t ks gs
+  pub unknown-op-stops : (ρ : Room) (s : Step) (v w : Value) → 7 ≤ s .op → Performs σ (perform ρ (opOf s) s v w σ) (Stopped c) t ks gs
   unknown-op-stops ρ s v w h =
-      subst (λ o. Performs σ (perform ρ o s v w σ) (Stopped c) t ks gs) (sym (List·getD-eq-default ops Unknown h)) stops-as-it-is
+      subst (λ o. Performs σ (perform ρ o s v w σ) (Stopped c) t ks gs) (sym (List·getD-eq-default (ops (s .t)) Unknown h)) stops-as-it-is
 
   pub full-as-it-is : (n : ℕ) → Performs σ (full n σ) (Full n c) t ks gs
   full-as-it-is n = record { answer = ap (Full n) count; has-row = tt; atoms-rowed = tt; carries = C; extends = extends-refl σ }
@@ -130,6 +130,7 @@ decrypted-anew : (vs : List Value) (w k : Value) → PartsBelow vs (length vs) w
 decrypted-anew vs (const m) k p new n e = let z : _≡_ {A = ℕ} 0 1 = cc in omega arith
 decrypted-anew vs (fresh m) k p new n e = let z : _≡_ {A = ℕ} 0 1 = cc in omega arith
 decrypted-anew vs (dec w l) k p new n e = let z : _≡_ {A = ℕ} 0 1 = cc in omega arith
+decrypted-anew vs (div l w) k p new n e = let z : _≡_ {A = ℕ} 0 1 = cc in omega arith
 decrypted-anew vs (enc w l) k p new n e = go (same l k) new e
   where
     go : (b : Bool) → present (cond b w (dec (enc w l) k)) vs ≡ false → fresh n ≡ cond b w (dec (enc w l) k) → ⊥
@@ -140,6 +141,11 @@ module _ {σ : State} {t ks gs u : List ℕ} {c : Counts} {a : Interned} {r : Ou
     (count : c ≡ countsOf σ) (taken : r ≡ tookOf c a) where
   pub encrypts : {v w : Value} → Appeared (enc v w) (σ .world .rows) a t u → Performs σ (appear (roomOf t ks) (enc v w) σ) r u ks gs
   encrypts A =
+      rw taken
+      (appears (roomOf t ks) refl C count A (λ new n h e. let z : _≡_ {A = ℕ} 0 1 = cc in omega arith) (λ there. few) (omega arith))
+
+  pub derives : {l : ℕ} {w : Value} → Appeared (div l w) (σ .world .rows) a t u → Performs σ (appear (roomOf t ks) (div l w) σ) r u ks gs
+  derives A =
       rw taken
       (appears (roomOf t ks) refl C count A (λ new n h e. let z : _≡_ {A = ℕ} 0 1 = cc in omega arith) (λ there. few) (omega arith))
 

@@ -133,5 +133,5 @@ module _ {σ : State} {t ks gs : List ℕ} (C : Carries σ t ks gs) where
   pub gets : {c : Counts} → FewAtoms σ → c ≡ countsOf σ → (ρ : Room) (s : Step) (x : ℕ) (w : Value) → x < c .rows → s .op ≡ 1
       → Performs σ (perform ρ (opOf s) s (valueAt (σ .world .rows) x) w σ) (getOf ks c s x) t ks gs
   gets {c} few count ρ s x w h op =
-      subst (λ n. Performs σ (perform ρ (getD ops n Unknown) s (valueAt (σ .world .rows) x) w σ) (getOf ks c s x) t ks gs) (sym op)
+      subst (λ n. Performs σ (perform ρ (getD (ops (s .t)) n Unknown) s (valueAt (σ .world .rows) x) w σ) (getOf ks c s x) t ks gs) (sym op)
       (rw count (got few ρ s x (omega (arith, same-rows count))))

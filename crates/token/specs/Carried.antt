@@ -4,7 +4,7 @@ use mathlib.Core.Path.{_≡_}
 use mathlib.Core.Bool.{true, false}
 use mathlib.Core.List.{List, _++_, map}
 use lib.ListN.{length, take, getD}
-use Rattle.model.specs.Step.{Use, nothing, value, attributes, fieldsOf, opOf}
+use Rattle.model.specs.Step.{Use, nothing, value, attributes, label, fieldsOf, opOf}
 use Rattle.model.specs.Value.{Value, fresh, rowOf, present, valueAt}
 use Rattle.model.specs.Token.{Key, State, Room, atMost, Out, gave, ended, stopped, full, keyAt}
 use Rattle.model.specs.Tables.{padded, keyCode}
@@ -64,6 +64,7 @@ abbrev pub UsedBelow : Use → ℕ → ℕ → Type 0
 UsedBelow nothing x n = Unit {0}
 UsedBelow value x n = x < n
 UsedBelow attributes x n = Unit {0}
+UsedBelow label x n = Unit {0}
 
 pub record Named (s : Step) (x y n : ℕ) : Type 0 where
   pub a-named : UsedBelow (fieldsOf (opOf s) .a) x n

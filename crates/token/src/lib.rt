@@ -215,6 +215,7 @@ pub fn perform_step(
         3 => store(rows, keys, guards, c, x, s.t),
         4 => took(c, values::encrypt_rows(rows, n, x, y)),
         5 => took(c, values::decrypt_rows(rows, n, x, y)),
+        6 => took(c, values::derive_row(rows, n, s.t as usize, y)),
         _ => Outcome::Stopped(c),
     }
 }

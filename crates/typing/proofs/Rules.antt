@@ -9,10 +9,10 @@ use lib.Dec.{eqb, ltb, lit<}
 use lib.ListN.{getD, length, List·getD-eq-default}
 use borrow.Author.Tests.{eq-eqb, ne-eqb}
 use Rattle.model.specs.Basics.{_else_then_}
-use Rattle.model.specs.Types.{Ty, Un, Data, Wrap, None, types, typeOfCode, codeOf, is, below, typeOf}
+use Rattle.model.specs.Types.{Ty, Un, TData, Data, Wrap, Seed, None, types, typeOfCode, codeOf, is, below, typeOf}
 use Rattle.model.specs.Step.{ops, Unknown, opOf}
 use Rattle.model.specs.Policy.{Policy, allows, offered, getType}
-use Rattle.model.specs.Typing.{returnOk, handleOk, storeOk, encryptOk, decryptOk, decryptType, refusal, gives}
+use Rattle.model.specs.Typing.{returnOk, handleOk, storeOk, encryptOk, decryptOk, decryptType, deriveOk, deriveType, refusal, gives}
 use Rattle.model.specs.declared.Step.{Step}
 use Rattle.model.proofs.TypeOrder.{code-back}
 use Rattle.types.proofs.Table.{same-below, same-at-pairs}
@@ -32,6 +32,9 @@ is-un x = is-by-code x 0 (lit< tt)
 
 is-wrap : (x : ℕ) → is (typeOfCode x) Wrap ≡ eqb x 3
 is-wrap x = is-by-code x 3 (lit< tt)
+
+is-seed : (x : ℕ) → is (typeOfCode x) Seed ≡ eqb x 4
+is-seed x = is-by-code x 4 (lit< tt)
 
 -- what a step stores: k is the code of the type of its attributes
 pub store-by-code : (x t k : ℕ) (z : Bool) → t < 256 → k ≡ codeOf (typeOf (t % 64)) → z ≡ below (typeOfCode x) (typeOfCode k)
@@ -59,15 +62,29 @@ unwrapped r y wraps = rw (is-wrap y, eq-eqb y 3 wraps)
 pub decrypted : (r y : ℕ) → (y ≡ 3 → ⊥) → Un ≡ decryptType (typeOfCode r) (typeOfCode y)
 decrypted r y other = rw (is-wrap y, ne-eqb y 3 other)
 
+pub derive-by-code : (y : ℕ) → (eqb y 4 || eqb y 0) ≡ deriveOk (typeOfCode y)
+derive-by-code y = cc (is-seed y, is-un y)
+
+pub derived-as-data : (l y : ℕ) → y ≡ 4 → l ≡ 0 → TData ≡ deriveType l (typeOfCode y)
+derived-as-data l y seed zero-label = rw (is-seed y, eq-eqb y 4 seed, zero-label)
+
+pub derived-as-wrap : (l y : ℕ) → y ≡ 4 → (l ≡ 0 → ⊥) → Wrap ≡ deriveType l (typeOfCode y)
+derived-as-wrap zero y seed other-label = absurd (other-label refl)
+derived-as-wrap (suc zero) y seed other-label = rw (is-seed y, eq-eqb y 4 seed)
+derived-as-wrap (suc (suc l)) y seed other-label = rw (is-seed y, eq-eqb y 4 seed)
+
+pub derived-openly : (l y : ℕ) → (y ≡ 4 → ⊥) → Un ≡ deriveType l (typeOfCode y)
+derived-openly l y other = rw (is-seed y, ne-eqb y 4 other)
+
 -- ---- what a step refuses and gives, by the number of its op
 
 module _ (p : Policy) (s : Step) (x y : Ty) where
   -- a step with the number o goes by the rules of op o
-  refusal-by-op : (o : ℕ) → s .op ≡ o → refusal p (getD ops o Unknown) s x y ≡ refusal p (opOf s) s x y
-  refusal-by-op o e = ap (λ n. refusal p (getD ops n Unknown) s x y) (sym e)
+  refusal-by-op : (o : ℕ) → s .op ≡ o → refusal p (getD (ops (s .t)) o Unknown) s x y ≡ refusal p (opOf s) s x y
+  refusal-by-op o e = ap (λ n. refusal p (getD (ops (s .t)) n Unknown) s x y) (sym e)
 
-  gives-by-op : (o : ℕ) → s .op ≡ o → gives p (getD ops o Unknown) s x y ≡ gives p (opOf s) s x y
-  gives-by-op o e = ap (λ n. gives p (getD ops n Unknown) s x y) (sym e)
+  gives-by-op : (o : ℕ) → s .op ≡ o → gives p (getD (ops (s .t)) o Unknown) s x y ≡ gives p (opOf s) s x y
+  gives-by-op o e = ap (λ n. gives p (getD (ops (s .t)) n Unknown) s x y) (sym e)
 
   -- one rule: met is its test, and z its refusal
   module _ (met : Bool) (z : ℕ) where
@@ -83,6 +100,9 @@ module _ (p : Policy) (s : Step) (x y : Ty) where
     pub decrypt-refusal : s .op ≡ 5 → met ≡ decryptOk x y → z ≡ (met else 19 then 0) → z ≡ refusal p (opOf s) s x y
     decrypt-refusal e tested judged = rw (judged, tested) (refusal-by-op 5 e)
 
+    pub derive-refusal : s .op ≡ 6 → met ≡ deriveOk y → z ≡ (met else 23 then 0) → z ≡ refusal p (opOf s) s x y
+    derive-refusal e tested judged = rw (judged, tested) (refusal-by-op 6 e)
+
   -- two rules in their order: rest is the refusal of the second, and z of both
   module _ (first second : Bool) (rest z : ℕ) where
     pub get-refusal : s .op ≡ 1 → first ≡ handleOk x → second ≡ ltb 0 (length (offered (p .allowing) s))
@@ -93,8 +113,8 @@ module _ (p : Policy) (s : Step) (x y : Ty) where
         → rest ≡ (second else 20 then 0) → z ≡ (first else 16 then rest) → z ≡ refusal p (opOf s) s x y
     store-refusal e tested tested₂ judged₂ judged = rw (judged, judged₂, tested, tested₂) (refusal-by-op 3 e)
 
-  pub unknown-refusal : 6 ≤ s .op → 4 ≡ refusal p (opOf s) s x y
-  unknown-refusal h = rw (List·getD-eq-default ops Unknown {n = s .op} h)
+  pub unknown-refusal : 7 ≤ s .op → 4 ≡ refusal p (opOf s) s x y
+  unknown-refusal h = rw (List·getD-eq-default (ops (s .t)) Unknown {n = s .op} h)
 
   pub return-gives : s .op ≡ 0 → x ≡ gives p (opOf s) s x y
   return-gives e = gives-by-op 0 e
@@ -105,14 +125,18 @@ module _ (p : Policy) (s : Step) (x y : Ty) where
   pub decrypt-gives : (τ : Ty) → s .op ≡ 5 → τ ≡ decryptType (p .transported) y → τ ≡ gives p (opOf s) s x y
   decrypt-gives τ e found = found ∙ gives-by-op 5 e
 
-  pub others-give-un : (s .op ≡ 0 → ⊥) → (s .op ≡ 1 → ⊥) → (s .op ≡ 5 → ⊥) → Un ≡ gives p (opOf s) s x y
+  pub derive-gives : (τ : Ty) → s .op ≡ 6 → τ ≡ deriveType (s .t) y → τ ≡ gives p (opOf s) s x y
+  derive-gives τ e found = found ∙ gives-by-op 6 e
+
+  pub others-give-un : (s .op ≡ 0 → ⊥) → (s .op ≡ 1 → ⊥) → (s .op ≡ 5 → ⊥) → (s .op ≡ 6 → ⊥) → Un ≡ gives p (opOf s) s x y
   others-give-un = go (s .op)
     where
-      go : (o : ℕ) → (o ≡ 0 → ⊥) → (o ≡ 1 → ⊥) → (o ≡ 5 → ⊥) → Un ≡ gives p (getD ops o Unknown) s x y
-      go zero u v w = absurd (u refl)
-      go (suc zero) u v w = absurd (v refl)
-      go (suc (suc zero)) u v w = refl
-      go (suc (suc (suc zero))) u v w = refl
-      go (suc (suc (suc (suc zero)))) u v w = refl
-      go (suc (suc (suc (suc (suc zero))))) u v w = absurd (w refl)
-      go (suc (suc (suc (suc (suc (suc n)))))) u v w = refl
+      go : (o : ℕ) → (o ≡ 0 → ⊥) → (o ≡ 1 → ⊥) → (o ≡ 5 → ⊥) → (o ≡ 6 → ⊥) → Un ≡ gives p (getD (ops (s .t)) o Unknown) s x y
+      go zero u v w z = absurd (u refl)
+      go (suc zero) u v w z = absurd (v refl)
+      go (suc (suc zero)) u v w z = refl
+      go (suc (suc (suc zero))) u v w z = refl
+      go (suc (suc (suc (suc zero)))) u v w z = refl
+      go (suc (suc (suc (suc (suc zero))))) u v w z = absurd (w refl)
+      go (suc (suc (suc (suc (suc (suc zero)))))) u v w z = absurd (z refl)
+      go (suc (suc (suc (suc (suc (suc (suc n))))))) u v w z = refl

@@ -16,7 +16,7 @@ ghost use Rattle.model.specs.Types.{typeOfCode, typeOf};
 ghost use Rattle.model.specs.Step.{opOf};
 ghost use Rattle.model.specs.Policy.{allows};
 ghost use Rattle.model.specs.Frame.{File};
-ghost use Rattle.model.specs.Typing.{returnOk, handleOk, storeOk, encryptOk, decryptOk, decryptType, refusal, gives, accepted, firstRefusal, verdict};
+ghost use Rattle.model.specs.Typing.{returnOk, handleOk, storeOk, encryptOk, decryptOk, decryptType, deriveOk, deriveType, refusal, gives, accepted, firstRefusal, verdict};
 ghost use Rattle.typing.specs.Given.{Given};
 ghost use Rattle.decoding.specs.Decoded.{commandFrom};
 ghost use Rattle.typing.specs.Lent.{policyFrom, commandFindings};
@@ -24,9 +24,13 @@ ghost use Rattle.typing.specs.Lent.{policyFrom, commandFindings};
 // The codes that the rules name.
 const UN: u8 = 0;
 
+const T_DATA: u8 = 1;
+
 const DATA: u8 = 2;
 
 const WRAP: u8 = 3;
+
+const SEED: u8 = 4;
 
 fn return_ok(x: u8) -> bool
     ensures { λ r. ⌜ r ≡ returnOk (typeOfCode x) ⌝ }
@@ -79,6 +83,22 @@ fn decrypt_type(transported: u8, y: u8) -> u8
     if y == WRAP { transported } else { UN }
 }
 
+fn derive_ok(y: u8) -> bool
+    ensures { λ r. ⌜ r ≡ deriveOk (typeOfCode y) ⌝ }
+{
+    (y == SEED) | (y == UN)
+}
+
+fn derive_type(label: u8, y: u8) -> u8
+    ensures { λ r. ⌜ typeOfCode r ≡ deriveType label (typeOfCode y) ⌝ }
+{
+    if y == SEED {
+        if label == 0 { T_DATA } else { WRAP }
+    } else {
+        UN
+    }
+}
+
 // The refusal of one rule before the others: its number unless it is met, and then what the rest says.
 fn unless(met: bool, number: usize, rest: usize) -> usize
     ensures { λ r. ⌜ r ≡ (met else number then rest) ⌝ }
@@ -99,6 +119,7 @@ fn refusal_of(transported: u8, allowing: u64, s: Step, x: u8, y: u8) -> usize
         3 => unless(is_allowed(allowing, t), 16, unless(store_ok(x, t), 20, 0)),
         4 => unless(encrypt_ok(transported, x, y), 18, 0),
         5 => unless(decrypt_ok(x, y), 19, 0),
+        6 => unless(derive_ok(y), 23, 0),
         _ => 4,
     }
 }
@@ -112,6 +133,7 @@ fn type_given(transported: u8, allowing: u64, s: Step, x: u8, y: u8) -> u8
         0 => x,
         1 => get_type(allowing, s),
         5 => decrypt_type(transported, y),
+        6 => derive_type(s.t, y),
         _ => UN,
     }
 }

@@ -9,11 +9,11 @@ use lib.Dec.{eqb}
 use lib.ListN.{length, length-map}
 use borrow.Author.Tests.{eq-eqb, ne-eqb}
 use Rattle.model.specs.Basics.{indexBy}
-use Rattle.model.specs.Value.{Value, const, fresh, enc, dec, same, rowOf, valueAt}
+use Rattle.model.specs.Value.{Value, const, fresh, enc, dec, div, same, rowOf, valueAt}
 use Rattle.model.specs.Tables.{packed, valueCode, rowCodes, PartsBelow, Rows}
 use Rattle.values.specs.Coding.{rowOfKind, decodeRow}
 use Rattle.values.specs.declared.Row.{Row}
-use Rattle.values.specs.declared.Row.the-variants.{Const, Fresh, Enc, Dec}
+use Rattle.values.specs.declared.Row.the-variants.{Const, Fresh, Enc, Dec, Div}
 use Rattle.values.specs.declared.Read.the-variants as read
 use Rattle.values.proofs.Index.{index-of-map, map-of-same}
 use Rattle.values.proofs.Present.{same-itself, same-is-equal, below-means-present, value-at-its-row, row-kept}
@@ -27,12 +27,14 @@ asRow vs (const n) = Const n
 asRow vs (fresh n) = Fresh n
 asRow vs (enc v k) = Enc (rowOf v vs) (rowOf k vs)
 asRow vs (dec v k) = Dec (rowOf v vs) (rowOf k vs)
+asRow vs (div l v) = Div l (rowOf v vs)
 
 abbrev ofRow : List Value → Row → Value
 ofRow vs (Const n) = const n
 ofRow vs (Fresh n) = fresh n
 ofRow vs (Enc a b) = enc (valueAt vs a) (valueAt vs b)
 ofRow vs (Dec a b) = dec (valueAt vs a) (valueAt vs b)
+ofRow vs (Div l b) = div l (valueAt vs b)
 
 module _ (kind a b : ℕ) (ha : a < 65536) (hb : b < 65536) where
   kind-back : packed kind a b / 4294967296 ≡ kind
@@ -53,6 +55,7 @@ number-tells-row vs i h (const n) p = unpacked 1 0 n (omega arith) p
 number-tells-row vs i h (fresh n) p = unpacked 2 0 n (omega arith) p
 number-tells-row vs i h (enc v k) p = unpacked 3 (rowOf v vs) (rowOf k vs) (omega arith) (omega arith)
 number-tells-row vs i h (dec v k) p = unpacked 4 (rowOf v vs) (rowOf k vs) (omega arith) (omega arith)
+number-tells-row vs i h (div l v) p = unpacked 5 l (rowOf v vs) (omega arith) (omega arith)
 
 -- unused places of the table are 0, so no row is taken for one
 pub number-is-not-zero : (vs : List Value) (v : Value) → 0 < valueCode vs v
@@ -60,6 +63,7 @@ number-is-not-zero vs (const n) = omega arith
 number-is-not-zero vs (fresh n) = omega arith
 number-is-not-zero vs (enc v k) = omega arith
 number-is-not-zero vs (dec v k) = omega arith
+number-is-not-zero vs (div l v) = omega arith
 
 -- two lists of rows that are the same below k
 abbrev pub AgreeBelow : ℕ → List Value → List Value → Type 0
@@ -74,6 +78,7 @@ module _ (us vs : List Value) (k : ℕ) (agree : AgreeBelow k us vs) (within : k
   value-back (fresh n) p = refl
   value-back (enc v l) p = ap₂ enc (part-back v (p .0)) (part-back l (p .1))
   value-back (dec v l) p = ap₂ dec (part-back v (p .0)) (part-back l (p .1))
+  value-back (div l v) p = ap (div l) (part-back v (p .1))
 
 -- a number tells its value, from the rows below it
 pub number-tells-value : (us vs : List Value) (k : ℕ) → k ≤ 65536 → k ≤ length us → k ≤ length vs → AgreeBelow k us vs
@@ -109,6 +114,7 @@ number-kept vs ws (enc v k) p =
     ap₂ (packed 3) (row-kept v vs ws (below-means-present v vs (p .0))) (row-kept k vs ws (below-means-present k vs (p .1)))
 number-kept vs ws (dec v k) p =
     ap₂ (packed 4) (row-kept v vs ws (below-means-present v vs (p .0))) (row-kept k vs ws (below-means-present k vs (p .1)))
+number-kept vs ws (div l v) p = ap (packed 5 l) (row-kept v vs ws (below-means-present v vs (p .1)))
 
 module _ {vs : List Value} (R : Rows vs) where
   -- the first numbers are those of the first rows

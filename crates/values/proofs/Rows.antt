@@ -8,7 +8,7 @@ use native.Mathlib.Omega.{arith}
 use native.Mathlib.Decide.{decLt}
 use lib.ListN.{length, length-append, List·getD-append}
 use lib.Seq.{getD-at}
-use Rattle.model.specs.Value.{Value, const, fresh, enc, dec, same, rowOf, present, valueAt}
+use Rattle.model.specs.Value.{Value, const, fresh, enc, dec, div, same, rowOf, present, valueAt}
 use Rattle.model.specs.Tables.{PartsBelow, Rows}
 use Rattle.values.proofs.Index.{index-within-first}
 use Rattle.values.proofs.Present.{same-itself, same-is-equal, below-means-present, value-at-its-row, row-kept, row-added}
@@ -19,6 +19,7 @@ parts-below-more vs i j (const n) h p = p
 parts-below-more vs i j (fresh n) h p = p
 parts-below-more vs i j (enc v k) h p = omega arith
 parts-below-more vs i j (dec v k) h p = omega arith
+parts-below-more vs i j (div l v) h p = omega arith
 
 -- rows that come after do not change where the parts are
 module _ (vs ws : List Value) (i : ℕ) (le : i ≤ length vs) where
@@ -30,6 +31,7 @@ module _ (vs ws : List Value) (i : ℕ) (le : i ≤ length vs) where
   parts-kept (fresh n) p = p
   parts-kept (enc v k) p = (part-kept v (p .0), part-kept k (p .1))
   parts-kept (dec v k) p = (part-kept v (p .0), part-kept k (p .1))
+  parts-kept (div l v) p = (p .0, part-kept v (p .1))
 
   part-of-first : (v : Value) → rowOf v (vs ++ ws) < i → rowOf v vs < i
   part-of-first v p = omega (arith, index-within-first (same v) vs ws (omega arith))
@@ -39,6 +41,7 @@ module _ (vs ws : List Value) (i : ℕ) (le : i ≤ length vs) where
   parts-of-first (fresh n) p = p
   parts-of-first (enc v k) p = (part-of-first v (p .0), part-of-first k (p .1))
   parts-of-first (dec v k) p = (part-of-first v (p .0), part-of-first k (p .1))
+  parts-of-first (div l v) p = (p .0, part-of-first v (p .1))
 
 pub no-rows : Rows []
 no-rows = record { distinct = λ i h. absurd (omega arith); after-parts = λ i h. absurd (omega arith) }

@@ -10,7 +10,7 @@ use lib.Dec.{eqb, ltb}
 use lib.ListN.{length, getD, take, length-set}
 use borrow.Author.Tests.{eq-eqb, ne-eqb, lt-ltb, le-ltb}
 use Rattle.model.specs.Basics.{indexBy}
-use Rattle.model.specs.Value.{Value, const, fresh, enc, dec, same, isConst, decrypt, rowOf, present, valueAt}
+use Rattle.model.specs.Value.{Value, const, fresh, enc, dec, div, same, isConst, decrypt, rowOf, present, valueAt}
 use Rattle.model.specs.Tables.{packed, valueCode, PartsBelow}
 use Rattle.values.specs.Coding.{codeRow, decodeRow, constantRow, constantRead, undoneRow, undoneRead}
 use Rattle.values.specs.Interning.{addAnswer, addTable, internAnswer, internTable, Stored, Interns}
@@ -32,6 +32,7 @@ constant-as-row vs (const n) = refl
 constant-as-row vs (fresh n) = refl
 constant-as-row vs (enc v k) = refl
 constant-as-row vs (dec v k) = refl
+constant-as-row vs (div l v) = refl
 
 pub constant-by-number : {t : List ℕ} {i : ℕ} {vs : List Value} → Holds t vs → i < length vs
     → constantRead (decodeRow (getD t i 0)) ≡ isConst (valueAt vs i)
@@ -78,6 +79,14 @@ module _ {t : List ℕ} {vs : List Value} {n : ℕ} (H : Holds t vs) (count : n 
       go true e = rw (test, e, at) (found-appears v e)
       go false e = rw (test, e) (add-appears v p e (record { answer = refl; table = refl }))
 
+  -- ---- one row
+
+  pub derive-appears : {l b : ℕ} → l < 65536 → b < n → {r : Interned} {u : List ℕ} → Interns t n (codeRow (row.Div l b)) r u
+      → Appeared (div l (valueAt vs b)) vs r t u
+  derive-appears {l} {b} hl hb s =
+      let row-of : rowOf (valueAt vs b) vs ≡ b = row-at (H .rows) b (omega arith) in
+      intern-appears (div l (valueAt vs b)) (hl, omega (arith, row-of)) (ap (packed 5 l) (sym row-of)) s
+
   -- ---- two rows
 
   module _ {a b : ℕ} (ha : a < n) (hb : b < n) where
@@ -114,6 +123,7 @@ module _ {t : List ℕ} {vs : List Value} {n : ℕ} (H : Holds t vs) (count : n 
     undone-as-row (const n) p = refl
     undone-as-row (fresh n) p = refl
     undone-as-row (dec v l) p = refl
+    undone-as-row (div l v) p = refl
     undone-as-row (enc v l) p = rw (same-by-row l (p .1)) (go (same l (valueAt vs b)) refl)
       where
         go : (c : Bool) → same l (valueAt vs b) ≡ c → Tells (enc v l) (cond c (To (rowOf v vs)) Not)

@@ -7,19 +7,21 @@ ghost use Prim.Native.Nat.{_≤_, _<_};
 ghost use lib.Dec.{eqb};
 ghost use lib.ListN.{length, take};
 ghost use Rattle.model.specs.Basics.{indexBy};
-ghost use Rattle.model.specs.Value.{Value, const, fresh, enc, isConst, decrypt, present, valueAt};
+ghost use Rattle.model.specs.Value.{Value, const, fresh, enc, div, isConst, decrypt, present, valueAt};
 ghost use Rattle.model.specs.Tables.{packed};
 ghost use Rattle.values.specs.Holds.{Holds, Appeared};
 ghost use Rattle.values.specs.Coding.{RowFits, codeRow, decodeRow, undoneRead};
 ghost use Rattle.values.specs.Interning.{Stored, Interns};
 ghost use Rattle.values.specs.Forgetting.{Forgets};
 
-// One case for each kind of value; the parts of an encryption and of an undone encryption are earlier rows.
+// One case for each kind of value; the parts of an encryption and of an undone encryption are earlier rows, and so is what a value is
+// derived from, after the label.
 pub enum Row {
     Const(usize),
     Fresh(usize),
     Enc(usize, usize),
     Dec(usize, usize),
+    Div(usize, usize),
 }
 
 // What a number of the table stands for.
@@ -41,7 +43,7 @@ enum Undone {
     Not,
 }
 
-// Sixteen bits hold a part: the own number of a constant or an atom, or one of at most 65,536 rows.
+// Sixteen bits hold a part: the own number of a constant or an atom, a label, or one of at most 65,536 rows.
 fn pack(kind: u64, a: usize, b: usize) -> u64
     requires { ⌜ (kind < 65536) × (a < 65536) × (b < 65536) ⌝ }
     ensures { λ r. ⌜ r ≡ packed kind a b ⌝ }
@@ -58,6 +60,7 @@ fn code(row: Row) -> u64
         Row::Fresh(n) => pack(2, 0, n),
         Row::Enc(a, b) => pack(3, a, b),
         Row::Dec(a, b) => pack(4, a, b),
+        Row::Div(a, b) => pack(5, a, b),
     }
 }
 
@@ -73,6 +76,7 @@ fn decode(x: u64) -> Read
         2 => Read::Row(Row::Fresh(b)),
         3 => Read::Row(Row::Enc(a, b)),
         4 => Read::Row(Row::Dec(a, b)),
+        5 => Read::Row(Row::Div(a, b)),
         _ => Read::Unused,
     }
 }
@@ -169,6 +173,14 @@ pub fn decrypt_rows(rows: &mut [u64], n: usize, a: usize, b: usize) -> Interned
         return intern(rows, n, Row::Dec(a, b));
     };
     Interned::Found(v)
+}
+
+// What is derived from row b under the label appears.
+pub fn derive_row(rows: &mut [u64], n: usize, label: usize, b: usize) -> Interned
+    requires { ⌜ (n ≤ length (now rows)) × (n ≤ 65536) × (label < 65536) × (b < n) ⌝ }
+    ensures { λ r. ⌜ ((vs : List Value) → Holds (now (rows .entry)) vs → n ≡ length vs → Appeared (div label (valueAt vs b)) vs r (now (rows .entry)) (now (rows .exit))) ⌝ }
+{
+    intern(rows, n, Row::Div(label, b))
 }
 
 // Whether a row is a constant.

@@ -1,18 +1,13 @@
 -- `token::perform_step` meets its contract: each op does what the model says of it, and any other op stops.
 -- Assumes nothing.
-use Prim.Native.Nat.{ℕ, _+_, _≤_}
-use mathlib.Core.Path.{_≡_}
 use native.Mathlib.Omega.{arith}
 use borrow.Author.Needs.{needs}
+use Rattle.model.proofs.Tests.{past}
 use Rattle.token.proofs.Growing.{same-rows}
-use Rattle.token.proofs.Appearing.{ends-with-row, unknown-op-stops, encrypts, decrypts}
+use Rattle.token.proofs.Appearing.{ends-with-row, unknown-op-stops, encrypts, decrypts, derives}
 use Rattle.token.proofs.Getting.{gets}
 use Rattle.token.proofs.perform_step.Statement.{statement}
 use Rattle.token.proofs.perform_step.Tie as tie
-
--- an op that is none of the known ones is past them
-past : (n k : ℕ) → k ≤ n → (n ≡ k → ⊥) → k + 1 ≤ n
-past n k h other = omega arith
 
 get-requires : tie.Need-get-requires
 get-requires c κs = search needs
@@ -50,6 +45,21 @@ decrypt-rows-requires c κs =
 
 took-requires-2 : tie.Need-took-requires-2
 took-requires-2 c κs = search needs
+
+cast-derive-row : tie.Need-cast-derive-row
+cast-derive-row c = search needs
+
+derive-row-requires : tie.Need-derive-row-requires
+derive-row-requires c κs =
+    let m = c .before .before in
+    let start = m .before .before .before .before in
+    let ready = start .pre .0 in
+    let named = start .pre .1 in
+    let y-named = rw (m .match .keys7) at (named .b-named) in
+    omega arith
+
+took-requires-3 : tie.Need-took-requires-3
+took-requires-3 c κs = search needs
 
 returns : tie.Need-returns
 returns c =
@@ -121,16 +131,21 @@ returns-6 c =
     rw (m .match .keys6)
     (decrypts C few count (c .took2 .ensures) _ _ named (d .decrypt-rows .ensures (σ .world .rows) (C .rows-held) (same-rows count)))
 
+same-length-10 : tie.Need-same-length-10
+same-length-10 c = search needs
+
 returns-7 : tie.Need-returns-7
 returns-7 c =
-    let other = c .match .rest in
+    let d = c .before .before .before in
+    let m = d .before .before .before in
+    λ σ C few count.
+    rw (m .match .keys7)
+    (derives C few count (c .took3 .ensures) (d .derive-row .ensures (σ .world .rows) (C .rows-held) (same-rows count)))
+
+returns-8 : tie.Need-returns-8
+returns-8 c =
     let s = c .before .before .before .before .args .s in
-    let one = past (s .op) 0 (omega arith) (other .0 .0 .0 .0 .0 .1) in
-    let two = past (s .op) 1 one (other .0 .0 .0 .0 .1) in
-    let three = past (s .op) 2 two (other .0 .0 .0 .1) in
-    let four = past (s .op) 3 three (other .0 .0 .1) in
-    let five = past (s .op) 4 four (other .0 .1) in
-    λ σ C few count. unknown-op-stops C few count _ s _ _ (past (s .op) 5 five (other .1))
+    λ σ C few count. unknown-op-stops C few count _ s _ _ (past 7 (s .op) (c .match .rest))
 
 pub perform-step-spec : {M : Type 1} → statement M
 perform-step-spec =
@@ -143,6 +158,9 @@ perform-step-spec =
     took-requires
     decrypt-rows-requires
     took-requires-2
+    cast-derive-row
+    derive-row-requires
+    took-requires-3
     returns
     same-length
     returns-2
@@ -158,4 +176,6 @@ perform-step-spec =
     returns-5
     same-length-9
     returns-6
-    returns-7)
+    same-length-10
+    returns-7
+    returns-8)

@@ -1,8 +1,8 @@
 -- `typing::refusal_of` meets its contract: each op's rules, in their order, are those of the model at the op's number.
 -- Assumes nothing.
-use native.Mathlib.Omega.{arith}
 use borrow.Author.Needs.{needs}
-use Rattle.typing.proofs.Rules.{return-refusal, get-refusal, generate-refusal, store-refusal, encrypt-refusal, decrypt-refusal, unknown-refusal}
+use Rattle.model.proofs.Tests.{past}
+use Rattle.typing.proofs.Rules.{return-refusal, get-refusal, generate-refusal, store-refusal, encrypt-refusal, decrypt-refusal, derive-refusal, unknown-refusal}
 use Rattle.typing.proofs.refusal_of.Statement.{statement}
 use Rattle.typing.proofs.refusal_of.Tie as tie
 
@@ -54,6 +54,12 @@ decrypt-ok-requires c κs = search needs
 unless-requires-8 : tie.Need-unless-requires-8
 unless-requires-8 c κs = search needs
 
+derive-ok-requires : tie.Need-derive-ok-requires
+derive-ok-requires c κs = search needs
+
+unless-requires-9 : tie.Need-unless-requires-9
+unless-requires-9 c κs = search needs
+
 returns : tie.Need-returns
 returns c =
     let at = c .before .before in
@@ -87,7 +93,12 @@ returns-6 c =
     decrypt-refusal _ (at .before .args .s) _ _ _ _ (at .match .keys6) (c .before .decrypt-ok .ensures) (c .unless8 .ensures)
 
 returns-7 : tie.Need-returns-7
-returns-7 c = unknown-refusal _ (c .before .args .s) _ _ (omega arith)
+returns-7 c =
+    let at = c .before .before in
+    derive-refusal _ (at .before .args .s) _ _ _ _ (at .match .keys7) (c .before .derive-ok .ensures) (c .unless9 .ensures)
+
+returns-8 : tie.Need-returns-8
+returns-8 c = unknown-refusal _ (c .before .args .s) _ _ (past 7 _ (c .match .rest))
 
 pub refusal-of-spec : {M : Type 1} → statement M
 refusal-of-spec =
@@ -109,10 +120,13 @@ refusal-of-spec =
     unless-requires-7
     decrypt-ok-requires
     unless-requires-8
+    derive-ok-requires
+    unless-requires-9
     returns
     returns-2
     returns-3
     returns-4
     returns-5
     returns-6
-    returns-7)
+    returns-7
+    returns-8)

@@ -29,6 +29,12 @@ enum-known-row-4 c = search needs
 pack-requires-4 : tie.Need-pack-requires-4
 pack-requires-4 c κs = omega (arith, rw (c .before .row4 .given .1) at (c .before .before .before .pre))
 
+enum-known-row-5 : tie.Need-enum-known-row-5
+enum-known-row-5 c = search needs
+
+pack-requires-5 : tie.Need-pack-requires-5
+pack-requires-5 c κs = omega (arith, rw (c .before .row5 .given .1) at (c .before .before .before .pre))
+
 returns : tie.Need-returns
 returns c = rw (c .before .before .row .given .1) (c .pack .ensures)
 
@@ -40,6 +46,9 @@ returns-3 c = rw (c .before .before .row3 .given .1) (c .pack3 .ensures)
 
 returns-4 : tie.Need-returns-4
 returns-4 c = rw (c .before .before .row4 .given .1) (c .pack4 .ensures)
+
+returns-5 : tie.Need-returns-5
+returns-5 c = rw (c .before .before .row5 .given .1) (c .pack5 .ensures)
 
 pub code-spec : {M : Type 1} → statement M
 code-spec =
@@ -53,7 +62,10 @@ code-spec =
     pack-requires-3
     enum-known-row-4
     pack-requires-4
+    enum-known-row-5
+    pack-requires-5
     returns
     returns-2
     returns-3
-    returns-4)
+    returns-4
+    returns-5)

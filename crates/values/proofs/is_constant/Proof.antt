@@ -8,17 +8,18 @@ use types.Run.{OneOf, miss}
 use denote.Enum.Declared.{tagOf}
 use Rattle.values.specs.Coding.{constantRow}
 use Rattle.values.specs.declared.Row.{Row}
-use Rattle.values.specs.declared.Row.the-variants.{Const, Fresh, Enc, Dec}
+use Rattle.values.specs.declared.Row.the-variants.{Const, Fresh, Enc, Dec, Div}
 use Rattle.values.proofs.Row.{the-type as row-type}
 use Rattle.values.proofs.Steps.{constant-by-number}
 use Rattle.values.proofs.is_constant.Statement.{statement}
 use Rattle.values.proofs.is_constant.Tie as tie
 
-others-are-not-constant : (w : Row) → OneOf (1 ∷ 2 ∷ 3 ∷ []) (tagOf row-type w) → constantRow w ≡ false
-others-are-not-constant (Const n) other = absurd (miss (1 ∷ 2 ∷ 3 ∷ []) 0 tt other)
+others-are-not-constant : (w : Row) → OneOf (1 ∷ 2 ∷ 3 ∷ 4 ∷ []) (tagOf row-type w) → constantRow w ≡ false
+others-are-not-constant (Const n) other = absurd (miss (1 ∷ 2 ∷ 3 ∷ 4 ∷ []) 0 tt other)
 others-are-not-constant (Fresh n) other = refl
 others-are-not-constant (Enc v k) other = refl
 others-are-not-constant (Dec v k) other = refl
+others-are-not-constant (Div l v) other = refl
 
 mul-decode : tie.Need-mul-decode
 mul-decode c = search needs

@@ -9,17 +9,18 @@ use types.Run.{OneOf, miss}
 use denote.Enum.Declared.{tagOf}
 use Rattle.values.specs.Coding.{undoneRow}
 use Rattle.values.specs.declared.Row.{Row}
-use Rattle.values.specs.declared.Row.the-variants.{Const, Fresh, Enc, Dec}
+use Rattle.values.specs.declared.Row.the-variants.{Const, Fresh, Enc, Dec, Div}
 use Rattle.values.specs.declared.Undone.the-variants.{Not}
 use Rattle.values.proofs.Row.{the-type as row-type}
 use Rattle.values.proofs.undo.Statement.{statement}
 use Rattle.values.proofs.undo.Tie as tie
 
-others-are-not-undone : (w : Row) (b : ℕ) → OneOf (0 ∷ 1 ∷ 3 ∷ []) (tagOf row-type w) → undoneRow w b ≡ Not
+others-are-not-undone : (w : Row) (b : ℕ) → OneOf (0 ∷ 1 ∷ 3 ∷ 4 ∷ []) (tagOf row-type w) → undoneRow w b ≡ Not
 others-are-not-undone (Const n) b other = refl
 others-are-not-undone (Fresh n) b other = refl
-others-are-not-undone (Enc v k) b other = absurd (miss (0 ∷ 1 ∷ 3 ∷ []) 2 tt other)
+others-are-not-undone (Enc v k) b other = absurd (miss (0 ∷ 1 ∷ 3 ∷ 4 ∷ []) 2 tt other)
 others-are-not-undone (Dec v k) b other = refl
+others-are-not-undone (Div l v) b other = refl
 
 decode-requires : tie.Need-decode-requires
 decode-requires c κs = search needs

@@ -3,7 +3,7 @@
 use Rattle.frames.proofs.line.line_formed.Statement.{statement}
 use Rattle.frames.proofs.line.line_formed.Tie as tie
 use borrow.Author.Needs.{needs}
-use Rattle.frames.proofs.Lines.{line-short, other-kind, many-arguments, other-length, a-call, command-given, two-decide}
+use Rattle.frames.proofs.Lines.{line-short, other-kind, many-arguments, other-length, head-decides}
 
 returns : tie.Need-returns
 returns c = search (needs, line-short)
@@ -35,23 +35,20 @@ add-if4 c = search needs
 returns-4 : tie.Need-returns-4
 returns-4 c = search (needs, other-length)
 
-shared-slice-read-if5 : tie.Need-shared-slice-read-if5
-shared-slice-read-if5 c = search needs
+shared-slice-read-head-fits : tie.Need-shared-slice-read-head-fits
+shared-slice-read-head-fits c = search needs
+
+shared-slice-read-head-fits-2 : tie.Need-shared-slice-read-head-fits-2
+shared-slice-read-head-fits-2 c = search needs
+
+shared-slice-read-head-fits-3 : tie.Need-shared-slice-read-head-fits-3
+shared-slice-read-head-fits-3 c = search needs
+
+head-fits-requires : tie.Need-head-fits-requires
+head-fits-requires c κs = search needs
 
 returns-5 : tie.Need-returns-5
-returns-5 c = search (needs, a-call)
-
-shared-slice-read-if6 : tie.Need-shared-slice-read-if6
-shared-slice-read-if6 c = search needs
-
-returns-6 : tie.Need-returns-6
-returns-6 c = search (needs, command-given)
-
-shared-slice-read-result : tie.Need-shared-slice-read-result
-shared-slice-read-result c = search needs
-
-returns-7 : tie.Need-returns-7
-returns-7 c = search (needs, two-decide)
+returns-5 c = search (needs, head-decides)
 
 pub line-formed-spec : {M : Type 1} → statement M
 line-formed-spec =
@@ -67,9 +64,8 @@ line-formed-spec =
     mul-if4
     add-if4
     returns-4
-    shared-slice-read-if5
-    returns-5
-    shared-slice-read-if6
-    returns-6
-    shared-slice-read-result
-    returns-7)
+    shared-slice-read-head-fits
+    shared-slice-read-head-fits-2
+    shared-slice-read-head-fits-3
+    head-fits-requires
+    returns-5)
