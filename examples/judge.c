@@ -31,6 +31,7 @@ static const char *meaning(unsigned number)
     case 20: return "store: the value's type is not below the template's";
     case 21: return "return: the value is not public";
     case 22: return "get: the handle is not public";
+    case 23: return "derive: from neither a seed nor a public value";
     case 32: return "a 4,097th distinct value";
     case 33: return "a 257th stored key";
     default: return "a number that no function answers";
@@ -45,7 +46,8 @@ static void print_row(unsigned row)
     case 1: printf("the constant %u", low); break;
     case 2: printf("the atom %u", low); break;
     case 3: printf("row %u encrypted under row %u", high, low); break;
-    default: printf("row %u decrypted under row %u", high, low); break;
+    case 4: printf("row %u decrypted under row %u", high, low); break;
+    default: printf("a value derived from row %u under label %u", low, high); break;
     }
 }
 

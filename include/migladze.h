@@ -35,7 +35,7 @@ enum {
  * first is the policy, frame 0; commands follow, and then session lines. Numbers of two bytes or more have the highest byte first.
  *   01 r allowed(8)                      the policy: the code of the transported type r; bit m of the number: template m is allowed
  *   02 p n step(4) .. step(4)            a command: 0 to 4 parameters, 1 to 16 steps of op, a, b, t
- *   03 kind command n argument(2) ..     a session line: kind 0 calls, 1 encrypts, 2 decrypts; 0 to 4 arguments
+ *   03 kind command n argument(2) ..     a session line: kind 0 calls, 1 encrypts, 2 decrypts, 3 derives; 0 to 4 arguments
  *
  * A template is a set of attributes, the sum of their weights: 1 sensitive (S), 2 always sensitive (A), 4 encrypt, 8 decrypt,
  * 16 wrap, 32 unwrap. The types have the codes 0 Un (public), 1 TData, 2 Data, 3 Wrap, 4 Seed, 5 Any.
@@ -43,18 +43,21 @@ enum {
  *   0 return a (the last step, and only the last)      3 store a under template t, which gives a handle
  *   1 get the key of handle a that has at least t      4 encrypt a under b
  *   2 generate a key under template t: its handle      5 decrypt a under b
+ *                                                      6 derive from b under label t, 0 or 1 (a is 0)
  * An argument is 8000 + n (hexadecimal) for the public constant n, or the number of an earlier session line, counted from 0. A line
- * that encrypts or decrypts has command 0 and two arguments, the second of them the key.
+ * that encrypts or decrypts has command 0 and two arguments, the second of them the key; one that derives has the label, 0 or 1, in
+ * the command's place, and one argument.
  *
  * TABLES. All entries are uint64_t. Those that are not in use are 0, and those in use stand before them (of steps, among the sixteen
  * of a command). Bits that are not named are 0. How many lines there are is told by migladze_read: the head of a line can be 0.
- *   heads      a session line:  bits 0-7 kind (as above), 8-15 command, 16-23 how many arguments
+ *   heads      a session line:  bits 0-7 kind (as above), 8-15 command or label, 16-23 how many arguments
  *   arguments  a session line:  16 bits each, the first lowest: bit 15 set is a constant in bits 0-14, else an earlier line
  *   commands   a command:       bits 0-7 parameters, 8-15 steps
  *   steps      a step:          bits 0-7 op, 8-15 a, 16-23 b, 24-31 t; step j of command c is entry 16 * c + j
  *   rows       a value:         bits 32-39 its kind, with two parts of 16 bits in bits 16-31 and 0-15:
  *                               1 the constant of the low part; 2 the atom of the low part, which a generate or a store made;
- *                               3 an encryption, 4 a decryption that undoes none: the row of what is in it, and the row of its key
+ *                               3 an encryption, 4 a decryption that undoes none: the row of what is in it, and the row of its key;
+ *                               5 a derivation: the label, and the row of what it is derived from
  *   keys       a stored key:    bits 0-7 its template, 8-23 the row of the key, 24-39 the row of its handle, bit 40 set
  *   outcomes   a finished line: bits 0-15 the row of its value (65535 if it stopped), 16-31 how many keys are stored after it,
  *                               bit 32 if it stopped (it gave no value, and left nothing), bit 33 if it is breached, bit 34 set
@@ -81,6 +84,7 @@ enum {
  *   20   store: the value's type is not below the template's
  *   21   return: the value is not public
  *   22   get: the handle is not public
+ *   23   derive: from neither a seed nor a public value
  *        A run ended before a line finished:
  *   32   there is no room for a 4,097th distinct value
  *   33   there is no room for a 257th stored key
@@ -115,7 +119,7 @@ size_t migladze_read(const uint8_t *input, size_t input_length, MIGLADZE_TABLES,
                      uint64_t *answer, size_t answer_length);
 
 /* Judges the input's commands by the typing rules. The answer has 3 numbers:
- *   0 number   1 to 7, 15, or 16 to 22; 0 if the configuration is accepted
+ *   0 number   1 to 7, 15, or 16 to 23; 0 if the configuration is accepted
  *   1 frame    of the refusal, or of the command that breaks the rule; 0 if accepted
  *   2 step     that breaks the rule; 0 if accepted or refused by reading
  * If the number is 0, no session whatever over these commands has a breached line, on a token of any size. The tables are left as
@@ -143,7 +147,7 @@ size_t migladze_run(const uint8_t *input, size_t input_length, MIGLADZE_TABLES,
  *
  * The output's frames, as lines of lowercase hexadecimal:
  *   80 number frame(2)                                    refused: 1 to 7, 15
- *   81 number frame(2) step                               verdict: 16 to 22, or all zero
+ *   81 number frame(2) step                               verdict: 16 to 23, or all zero
  *   82 line(2) stopped row(2) keys(2) breached            a finished line
  *   83 ending first-breached-line(2)                      0, 32 or 33; ffff if no line is breached
  */

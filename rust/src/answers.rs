@@ -96,10 +96,12 @@ pub enum Rule {
     Return,
     /// 22: get: the handle is not public.
     Handle,
+    /// 23: derive: from neither a seed nor a public value.
+    Derive,
 }
 
 impl Rule {
-    const ALL: [Rule; 7] = [
+    const ALL: [Rule; 8] = [
         Rule::TemplateAllowed,
         Rule::AttributesOffered,
         Rule::Encrypt,
@@ -107,6 +109,7 @@ impl Rule {
         Rule::Store,
         Rule::Return,
         Rule::Handle,
+        Rule::Derive,
     ];
 
     /// The number that the library answers where it is broken.
@@ -119,6 +122,7 @@ impl Rule {
             Rule::Store => 20,
             Rule::Return => 21,
             Rule::Handle => 22,
+            Rule::Derive => 23,
         }
     }
 
@@ -141,6 +145,7 @@ impl fmt::Display for Rule {
             Rule::Store => "store: the value's type is not below the template's",
             Rule::Return => "return: the value is not public",
             Rule::Handle => "get: the handle is not public",
+            Rule::Derive => "derive: from neither a seed nor a public value",
         })
     }
 }

@@ -128,16 +128,26 @@ pub enum Row {
         /// The row of the key.
         key: u16,
     },
+    /// A derivation.
+    Div {
+        /// The label, 0 or 1.
+        label: u8,
+        /// The row of what it is derived from.
+        value: u16,
+    },
 }
 
 impl Row {
     fn from_code(code: u64) -> Self {
         let (value, key) = (half(code, 16), half(code, 0));
+        // Of a derivation the label stands first, and the value last.
+        let (label, seed) = (byte(code, 16), key);
         match code >> 32 {
             1 => Row::Const(key),
             2 => Row::Fresh(key),
             3 => Row::Enc { value, key },
             4 => Row::Dec { value, key },
+            5 => Row::Div { label, value: seed },
             kind => panic!("{kind} is no kind of a value"),
         }
     }
@@ -150,6 +160,9 @@ impl fmt::Display for Row {
             Row::Fresh(n) => write!(f, "the atom {n}"),
             Row::Enc { value, key } => write!(f, "row {value} encrypted under row {key}"),
             Row::Dec { value, key } => write!(f, "row {value} decrypted under row {key}"),
+            Row::Div { label, value } => {
+                write!(f, "a value derived from row {value} under label {label}")
+            }
         }
     }
 }
@@ -247,6 +260,13 @@ pub enum Step {
         /// Under which key.
         key: u8,
     },
+    /// Derives a key.
+    Derive {
+        /// From what.
+        value: u8,
+        /// Under which label, 0 or 1.
+        label: u8,
+    },
 }
 
 impl Step {
@@ -262,6 +282,10 @@ impl Step {
             3 => Step::Store { value, template },
             4 => Step::Encrypt { value, key },
             5 => Step::Decrypt { value, key },
+            6 => Step::Derive {
+                value: key,
+                label: template.0,
+            },
             op => panic!("{op} is no op"),
         }
     }
@@ -296,6 +320,13 @@ pub enum Line {
         /// The two.
         arguments: Vec<Argument>,
     },
+    /// What is derived from the argument.
+    Derive {
+        /// Under which label, 0 or 1.
+        label: u8,
+        /// The one.
+        arguments: Vec<Argument>,
+    },
 }
 
 impl Line {
@@ -312,6 +343,10 @@ impl Line {
             },
             1 => Line::Encrypt { arguments },
             2 => Line::Decrypt { arguments },
+            3 => Line::Derive {
+                label: byte(head, 8),
+                arguments,
+            },
             kind => panic!("{kind} is no kind of a line"),
         }
     }
@@ -327,10 +362,13 @@ mod tests {
         0200020200000100000000\n\
         020103030000010101000100000000\n\
         020203040001000502010000030000\n\
+        0201020600000100010000\n\
         03000000\n\
         0300020280050000\n\
         0301000200008001\n\
-        0302000280018002\n";
+        0302000280018002\n\
+        030300010003\n\
+        030003018002\n";
 
     #[test]
     fn commands_and_lines() {
@@ -341,7 +379,7 @@ mod tests {
         else {
             panic!("the input is well formed");
         };
-        assert_eq!((commands, lines), (3, 4));
+        assert_eq!((commands, lines), (4, 6));
         let template = Template(1);
         let command = |parameters, steps: &[Step]| Command {
             parameters,
@@ -368,6 +406,13 @@ mod tests {
                     Step::Return { value: 3 },
                 ],
             ),
+            command(
+                1,
+                &[
+                    Step::Derive { value: 0, label: 1 },
+                    Step::Return { value: 1 },
+                ],
+            ),
         ];
         assert_eq!(checker.tables().commands().collect::<Vec<_>>(), expected);
         use Argument::{Constant, Line as Earlier};
@@ -385,6 +430,14 @@ mod tests {
             },
             Line::Decrypt {
                 arguments: vec![Constant(1), Constant(2)],
+            },
+            Line::Derive {
+                label: 0,
+                arguments: vec![Earlier(3)],
+            },
+            Line::Call {
+                command: 3,
+                arguments: vec![Constant(2)],
             },
         ];
         assert_eq!(checker.tables().lines(lines).collect::<Vec<_>>(), expected);
@@ -406,10 +459,12 @@ mod tests {
             Row::Enc { value: 0, key: 4 },
             Row::Const(2),
             Row::Dec { value: 4, key: 6 },
+            Row::Div { label: 0, value: 7 },
+            Row::Div { label: 1, value: 6 },
         ];
         assert_eq!(rows, expected);
         let gave: Vec<Option<u16>> = tables.finished_lines().map(|line| line.row).collect();
-        assert_eq!(gave, [Some(0), Some(2), Some(5), Some(7)]);
+        assert_eq!(gave, [0, 2, 5, 7, 8, 9].map(Some));
         assert!(tables.finished_lines().all(|line| !line.breached));
     }
 

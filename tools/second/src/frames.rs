@@ -13,6 +13,8 @@ pub const LINES_LIMIT: usize = 1_024;
 const STEPS_LIMIT: u8 = 16;
 /// Parameters of a command and arguments of a session line alike.
 const ARGUMENTS_LIMIT: usize = 4;
+/// How many labels there are to derive under.
+const LABELS: u8 = 2;
 
 const POLICY: u8 = 1;
 const COMMAND: u8 = 2;
@@ -58,6 +60,7 @@ pub enum Step {
     Store { value: u8, template: u8 },
     Encrypt { value: u8, key: u8 },
     Decrypt { value: u8, key: u8 },
+    Derive { value: u8, label: u8 },
 }
 
 /// A session line. Lines of all kinds keep their arguments alike because a run
@@ -74,6 +77,7 @@ pub enum Action {
     Call { command: u8 },
     Encrypt,
     Decrypt,
+    Derive { label: u8 },
 }
 
 #[derive(Clone, Copy, PartialEq, Eq, Debug)]
@@ -191,6 +195,7 @@ fn decode_step(bytes: &[u8]) -> Option<Step> {
         [3, value, 0, template] if known(template) => Some(Step::Store { value, template }),
         [4, value, key, 0] => Some(Step::Encrypt { value, key }),
         [5, value, key, 0] => Some(Step::Decrypt { value, key }),
+        [6, 0, value, label] if label < LABELS => Some(Step::Derive { value, label }),
         _ => None,
     }
 }
@@ -200,7 +205,9 @@ fn names_only_made_values(command: &Command) -> bool {
         .zip(&command.steps)
         .all(|(made, step)| match *step {
             Step::Generate { .. } => true,
-            Step::Return { value } | Step::Store { value, .. } => usize::from(value) < made,
+            Step::Return { value } | Step::Store { value, .. } | Step::Derive { value, .. } => {
+                usize::from(value) < made
+            }
             Step::Get { handle, .. } => usize::from(handle) < made,
             Step::Encrypt { value, key } | Step::Decrypt { value, key } => {
                 usize::from(value.max(key)) < made
@@ -218,6 +225,7 @@ fn decode_line(frame: &[u8]) -> Option<Line> {
         (0, command, _) => Action::Call { command },
         (1, 0, 2) => Action::Encrypt,
         (2, 0, 2) => Action::Decrypt,
+        (3, label, 1) if label < LABELS => Action::Derive { label },
         _ => return None,
     };
     let mut slots = [Argument::Constant(0); ARGUMENTS_LIMIT];
@@ -248,7 +256,7 @@ fn names_what_is_there(line: &Line, file: &File) -> bool {
             .commands
             .get(usize::from(command))
             .is_some_and(|command| command.parameters == line.count),
-        Action::Encrypt | Action::Decrypt => true,
+        Action::Encrypt | Action::Decrypt | Action::Derive { .. } => true,
     };
     call_fits
         && line.arguments().iter().all(|argument| match argument {

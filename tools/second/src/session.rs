@@ -108,6 +108,7 @@ impl Player<'_> {
             }
             Action::Encrypt => self.token.encrypt(self.values[0], self.values[1]),
             Action::Decrypt => self.token.decrypt(self.values[0], self.values[1]),
+            Action::Derive { label } => self.token.derive(label, self.values[0]),
         }
     }
 
@@ -131,6 +132,7 @@ impl Player<'_> {
             Step::Store { value, template } => self.token.store(row(value), template),
             Step::Encrypt { value, key } => self.token.encrypt(row(value), row(key)),
             Step::Decrypt { value, key } => self.token.decrypt(row(value), row(key)),
+            Step::Derive { value, label } => self.token.derive(label, row(value)),
         }
     }
 

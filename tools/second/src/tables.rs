@@ -117,6 +117,7 @@ fn row(value: &Value) -> u64 {
         Value::Fresh(number) => (2, 0, number.into()),
         Value::Enc(content, key) => (3, content.into(), key.into()),
         Value::Dec(content, key) => (4, content.into(), key.into()),
+        Value::Div(label, value) => (5, label.into(), value.into()),
     };
     pack([(kind, 32), (first, 16), (second, 0)])
 }
@@ -132,10 +133,12 @@ fn key(stored: &StoredKey) -> u64 {
 }
 
 fn head(line: &Line) -> u64 {
+    // A derivation has its label where a call has its command.
     let (kind, command) = match line.action {
         Action::Call { command } => (0, command),
         Action::Encrypt => (1, 0),
         Action::Decrypt => (2, 0),
+        Action::Derive { label } => (3, label),
     };
     let count = line.arguments().len() as u64;
     pack([(kind, 0), (command.into(), 8), (count, 16)])
@@ -182,6 +185,7 @@ fn step(step: &Step) -> u64 {
         Step::Store { value, template } => [3, value, 0, template],
         Step::Encrypt { value, key } => [4, value, key, 0],
         Step::Decrypt { value, key } => [5, value, key, 0],
+        Step::Derive { value, label } => [6, 0, value, label],
     };
     u32::from_le_bytes(bytes).into()
 }

@@ -22,6 +22,8 @@ pub enum Value {
     Enc(Row, Row),
     /// A decryption that did not undo an encryption: the value and the key.
     Dec(Row, Row),
+    /// A derivation: the label and the value derived from.
+    Div(u8, Row),
 }
 
 #[derive(Clone, Copy, PartialEq, Eq, Debug)]
@@ -117,6 +119,11 @@ impl Token {
             Value::Enc(inner, used) if used == key => Ok(inner),
             _ => self.row_of(Value::Dec(value, key)),
         }
+    }
+
+    /// The same label and value always give the same; nothing undoes it.
+    pub fn derive(&mut self, label: u8, value: Row) -> Result<Row, Halt> {
+        self.row_of(Value::Div(label, value))
     }
 
     /// The key behind a handle. The call stops if there is none or if its

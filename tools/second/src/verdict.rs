@@ -11,6 +11,7 @@ const DECRYPT_REFUSED: u8 = 19;
 const STORE_REFUSED: u8 = 20;
 const SECRET_RETURNED: u8 = 21;
 const HANDLE_NOT_PUBLIC: u8 = 22;
+const DERIVE_REFUSED: u8 = 23;
 
 /// Acceptance is number 0 at frame 0 and step 0.
 #[derive(Clone, Copy, PartialEq, Eq, Debug)]
@@ -78,6 +79,9 @@ fn step_type(policy: &Policy, values: &[Type], step: Step) -> Result<Type, u8> {
             return decrypted_type(policy, value_type(value), value_type(key))
                 .ok_or(DECRYPT_REFUSED);
         }
+        Step::Derive { value, label } => {
+            return derived_type(value_type(value), label).ok_or(DERIVE_REFUSED);
+        }
     }
     // Handles and ciphertexts are public, and what is returned is so too.
     Ok(Type::Un)
@@ -114,6 +118,17 @@ fn may_encrypt(policy: &Policy, value: Type, key: Type) -> bool {
         value.is_below(policy.transported)
     } else {
         key.is_below(Type::Data) && value == Type::Un
+    }
+}
+
+/// A seed gives keys for one role each, and from what is public anyone can
+/// derive. From all else nothing is derived, not even from what may be a seed.
+fn derived_type(value: Type, label: u8) -> Option<Type> {
+    match (value, label) {
+        (Type::Seed, 0) => Some(Type::TData),
+        (Type::Seed, _) => Some(Type::Wrap),
+        (Type::Un, _) => Some(Type::Un),
+        _ => None,
     }
 }
 

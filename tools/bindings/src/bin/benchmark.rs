@@ -117,6 +117,16 @@ fn four_constants() -> String {
     (0..1024).map(line).collect()
 }
 
+/// 1,024 lines, each of which derives from the one before under labels in
+/// turn; the first from a constant.
+fn derivations() -> String {
+    let line = |i: usize| {
+        let from = i.checked_sub(1).unwrap_or(0x8000);
+        format!("0303{:02x}01{from:04x}\n", i % 2)
+    };
+    (0..1024).map(line).collect()
+}
+
 fn rows() -> Vec<Row> {
     let row = |name, entry, input| Row { name, entry, input };
     let (commands, filling) = (long_commands(), four_constants());
@@ -157,6 +167,11 @@ fn rows() -> Vec<Row> {
             "run: 256 keys and 768 gets",
             Entry::Run,
             format!("{POLICY}{GENERATE}{GET}{keys}{gets}"),
+        ),
+        row(
+            "run: 1,024 lines that derive, each from the last",
+            Entry::Run,
+            format!("{POLICY}{}", derivations()),
         ),
     ]
 }

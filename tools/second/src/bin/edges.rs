@@ -17,6 +17,15 @@ const FIVE: &str = "0204020400010000040000\n";
 /// Gets the key of a handle and returns it: a breach of the rules, a stop for
 /// what is no handle.
 const GET: &str = "0201020100000100010000\n";
+/// Gets the seed of a handle, derives a data key from it, stores that.
+const DIVERSIFY: &str = "02010401000014060001000302000f00030000\n";
+/// Takes four values, derives from the first, returns that.
+const DERIVE: &str = "0204020600000000040000\n";
+/// Derives from its argument and stores that under template 15.
+const KEEP_DERIVED: &str = "020103060000000301000f00020000\n";
+/// The attacker derives from constant 5, under label 0 and under label 1.
+const DERIVES: &str = "030300018005\n";
+const DERIVES_OTHER: &str = "030301018005\n";
 /// The attacker encrypts constant 0 under constant 1.
 const ENCRYPTS: &str = "0301000280008001\n";
 const ACCEPTED: &str = "8100000000\n";
@@ -122,6 +131,31 @@ fn reading() -> Vec<Case> {
             refused("060001"),
         ),
         case(
+            "a step with a label of 2",
+            format!("{POLICY}{}", DERIVE.replace("06000000", "06000002")),
+            refused("040001"),
+        ),
+        case(
+            "a line with a label of 2",
+            format!("{POLICY}030302018005\n"),
+            refused("040001"),
+        ),
+        case(
+            "a line that derives from two values",
+            format!("{POLICY}0303000280058005\n"),
+            refused("040001"),
+        ),
+        case(
+            "an op of 7",
+            format!("{POLICY}{}", DERIVE.replace("06000000", "07000000")),
+            refused("040001"),
+        ),
+        case(
+            "a line of kind 4",
+            format!("{POLICY}030400018005\n"),
+            refused("040001"),
+        ),
+        case(
             "an allowed template without a type",
             "01050000000000000004\n".into(),
             refused("070000"),
@@ -131,6 +165,8 @@ fn reading() -> Vec<Case> {
 
 fn verdicts() -> Vec<Case> {
     let policy = "01020008000000002000\n";
+    // Templates 15, 51 and 63: only the last, a seed, has E and W.
+    let seeds = "01028008000000008000\n";
     vec![
         case(
             "a data key under a wrapping key",
@@ -141,6 +177,16 @@ fn verdicts() -> Vec<Case> {
             "a key of either template under a wrapping key",
             format!("{policy}02020401000001010100100402030000040000\n"),
             format!("8112000102\n{FLAT_END}"),
+        ),
+        case(
+            "a data key from a seed",
+            format!("{seeds}{DIVERSIFY}"),
+            format!("{ACCEPTED}{FLAT_END}"),
+        ),
+        case(
+            "a data key from what may be no seed",
+            format!("{seeds}{}", DIVERSIFY.replace("01000014", "01000004")),
+            format!("8117000101\n{FLAT_END}"),
         ),
     ]
 }
@@ -170,6 +216,30 @@ fn runs() -> Vec<Case> {
             "4,097 rows",
             format!("{POLICY}{FOUR}{FIVE}{filling}{}", four_constants(1, 1023)),
             format!("{ACCEPTED}{filled}8320ffff\n"),
+        ),
+        case(
+            "a derivation that needs a 4,097th row",
+            format!("{POLICY}{FOUR}{DERIVE}{filling}{}", four_constants(1, 1023)),
+            format!("{ACCEPTED}{filled}8320ffff\n"),
+        ),
+        case(
+            "derivations under both labels",
+            format!("{POLICY}{DERIVES}{DERIVES_OTHER}{DERIVES}"),
+            format!(
+                "{ACCEPTED}{}{}{}{FLAT_END}",
+                value(0, 1, 0),
+                value(1, 2, 0),
+                value(2, 1, 0)
+            ),
+        ),
+        case(
+            "a derived key that the attacker derives",
+            format!("{POLICY}{KEEP_DERIVED}030000018005\n{DERIVES_OTHER}{DERIVES}"),
+            format!(
+                "8110000101\n{}{}820002000001000101\n83000002\n",
+                value(0, 2, 1),
+                value(1, 3, 1)
+            ),
         ),
         case(
             "stops in the middle",

@@ -9,7 +9,7 @@ use crate::types::UNTYPED_TEMPLATES;
 
 type Attack = fn(&mut Scene);
 
-const ATTACKS: [Attack; 14] = [
+const ATTACKS: [Attack; 19] = [
     wrap_then_decrypt,
     wrap_under_known_key,
     return_key,
@@ -24,6 +24,11 @@ const ATTACKS: [Attack; 14] = [
     take_no_notice_of_policy,
     decrypt_secret,
     guard_then_stop,
+    derive_from_known_seed,
+    derive_from_leaked_seed,
+    derive_for_two_roles,
+    derive_from_other_key,
+    return_derived_key,
 ];
 
 /// Templates of which the attacks make use, for what else is in the file.
@@ -86,6 +91,25 @@ fn some_constant(scene: &mut Scene) -> u16 {
 /// A template of a key worth having.
 fn secret(scene: &mut Scene) -> u8 {
     scene.random.pick(&[1, 3, 5, 13, 15, 15, 51])
+}
+
+/// A template of a key to derive from.
+fn seed(scene: &mut Scene) -> u8 {
+    scene.random.pick(&[3, 23, 63, 63])
+}
+
+fn some_label(scene: &mut Scene) -> u8 {
+    scene.random.below(2) as u8
+}
+
+/// Mostly the template for what is derived under the label.
+fn derived_template(scene: &mut Scene, label: u8) -> u8 {
+    let templates = if label == 0 { [15, 7] } else { [51, 19] };
+    if scene.random.chance(80) {
+        scene.random.pick(&templates)
+    } else {
+        secret(scene)
+    }
 }
 
 /// One key that wraps and decrypts.
@@ -187,6 +211,89 @@ fn guard_then_stop(scene: &mut Scene) {
     if scene.random.chance(30) {
         known_key(scene, 15, value);
     }
+}
+
+/// A seed that the attacker put there himself: what is derived from it and
+/// counts as always sensitive, he derives as well.
+fn derive_from_known_seed(scene: &mut Scene) {
+    let known = some_constant(scene);
+    let template = scene.random.pick(&[0, 60, 63]);
+    let imported = known_key(scene, template, known);
+    let label = some_label(scene);
+    let own = scene.derive(label, known);
+    let trusted = derived_template(scene, label);
+    if scene.random.chance(50) {
+        allow(scene, trusted);
+        scene.perform(recipe::diversify(template, label, trusted), &[imported]);
+    } else {
+        known_key(scene, trusted, own);
+    }
+}
+
+/// The seed itself comes out, or nearly: the token shows its derivation under
+/// the other label.
+fn derive_from_leaked_seed(scene: &mut Scene) {
+    let template = seed(scene);
+    let handle = fresh_key(scene, template);
+    let label = some_label(scene);
+    let trusted = derived_template(scene, label);
+    allow(scene, trusted);
+    scene.perform(recipe::diversify(template, label, trusted), &[handle]);
+    let leaked = if scene.random.chance(70) {
+        scene.perform(recipe::read_out(template), &[handle])
+    } else {
+        scene.perform(recipe::derive_out(template, 1 - label), &[handle])
+    };
+    scene.derive(label, leaked);
+}
+
+/// One label for two roles: the same derived key wraps and decrypts. With two
+/// labels they are two keys, and the attack comes to nothing.
+fn derive_for_two_roles(scene: &mut Scene) {
+    let template = seed(scene);
+    let target = secret(scene);
+    let handle = fresh_key(scene, template);
+    let target = fresh_key(scene, target);
+    let (one, other) = (some_label(scene), some_label(scene));
+    allow(scene, 15);
+    allow(scene, 51);
+    let wrapper = scene.perform(recipe::diversify(template, one, 51), &[handle]);
+    let data = scene.perform(recipe::diversify(template, other, 15), &[handle]);
+    let wrapped = scene.perform(recipe::wrap(1, 16), &[target, wrapper]);
+    scene.perform(recipe::decrypt(8), &[wrapped, data]);
+}
+
+/// A key that is no seed for certain, and keys derived from it.
+fn derive_from_other_key(scene: &mut Scene) {
+    let template = secret(scene);
+    let handle = fresh_key(scene, template);
+    let label = some_label(scene);
+    let attributes = template & scene.random.byte();
+    let value = some_constant(scene);
+    match scene.random.below(3) {
+        0 => {
+            let trusted = derived_template(scene, label);
+            allow(scene, trusted);
+            scene.perform(recipe::diversify(attributes, label, trusted), &[handle])
+        }
+        1 => {
+            let under = recipe::encrypt_diversified(attributes, label);
+            scene.perform(under, &[value, handle])
+        }
+        _ => scene.perform(recipe::derive_out(attributes, label), &[handle]),
+    };
+}
+
+/// A derived key is stored as trusted, and derived again to be given out.
+fn return_derived_key(scene: &mut Scene) {
+    let template = seed(scene);
+    let handle = fresh_key(scene, template);
+    let label = some_label(scene);
+    let trusted = derived_template(scene, label);
+    allow(scene, trusted);
+    scene.perform(recipe::diversify(template, label, trusted), &[handle]);
+    let label = some_label(scene);
+    scene.perform(recipe::derive_out(template, label), &[handle]);
 }
 
 /// A key of too many roles decrypts what the attacker encrypted under it.

@@ -51,12 +51,15 @@ fn many_keys(count: usize, template: u8) -> Recipe {
     }
 }
 
-/// Encrypts its argument `count` times under itself: as many new rows, beside
-/// that of the argument.
-fn chain(count: usize) -> Recipe {
-    let mut steps: Vec<RawStep> = (0..count as u8)
-        .map(|value| recipe::enc(value, 0))
-        .collect();
+/// What a link of a chain does to the value before it.
+type Link = fn(u8) -> RawStep;
+
+const LINKS: [Link; 2] = [|value| recipe::enc(value, 0), |value| recipe::div(value, 1)];
+
+/// Encrypts its argument `count` times under itself, or derives from it as
+/// often: as many new rows, beside that of the argument.
+fn chain(count: usize, link: Link) -> Recipe {
+    let mut steps: Vec<RawStep> = (0..count as u8).map(link).collect();
     steps.push(recipe::give_back(count as u8));
     Recipe {
         wants: vec![Want::Anything],
@@ -137,7 +140,8 @@ impl Filler {
     fn rows_line(&mut self, missing: usize) {
         let argument = self.new_constant();
         if missing > self.chain {
-            self.scene.perform(chain(self.chain), &[argument]);
+            let link = self.scene.random.pick(&LINKS);
+            self.scene.perform(chain(self.chain, link), &[argument]);
             self.rows += self.chain + 1;
         } else {
             self.scene.perform(recipe::identity(), &[argument]);
@@ -170,7 +174,7 @@ impl Filler {
     fn add_straw(&mut self, argument: u16) {
         let old = constant(1);
         let scene = &mut self.scene;
-        match scene.random.below(10) {
+        match scene.random.below(13) {
             0 => scene.perform(recipe::generate(13), &[]),
             1 => scene.perform(recipe::import(13), &[old]),
             2 => scene.perform(recipe::identity(), &[argument]),
@@ -178,10 +182,13 @@ impl Filler {
             4 => scene.compute(ENCRYPTS, old, constant(2)),
             // These come to the limit in the midst of a line.
             5 => scene.perform(many_keys(self.batch, 3), &[]),
-            6 => scene.perform(chain(self.chain), &[argument]),
+            6 => scene.perform(chain(self.chain, LINKS[0]), &[argument]),
+            7 => scene.perform(chain(self.chain, LINKS[1]), &[argument]),
             // In these a stop and the limit compete for being first.
-            7 => scene.perform(stop_late(1), &[old]),
-            8 => scene.compute(ENCRYPTS, argument, self.stopped),
+            8 => scene.perform(stop_late(1), &[old]),
+            9 => scene.compute(ENCRYPTS, argument, self.stopped),
+            10 => scene.derive(0, old),
+            11 => scene.derive(0, argument),
             _ => scene.compute(ENCRYPTS, self.stopped, argument),
         };
     }

@@ -163,11 +163,13 @@ fn break_counts_of_command(random: &mut Random, frames: &mut Frames) {
 fn break_step(random: &mut Random, frames: &mut Frames) {
     let (field, byte) = random.pick(&[
         (0, 6),
+        (0, 7),
         (0, 10),
         (0, 0xff),
         (1, 1),
         (2, 1),
         (3, 1),
+        (3, 2),
         (3, 64),
         (3, 0xff),
     ]);
@@ -205,6 +207,7 @@ fn name_unmade_value(random: &mut Random, frames: &mut Frames) {
         match fields[0] {
             0 | 1 | 3 => naming.push((step, 1)),
             4 | 5 => naming.extend([(step, 1), (step, 2)]),
+            6 => naming.push((step, 2)),
             _ => {}
         }
     }
@@ -216,8 +219,12 @@ fn name_unmade_value(random: &mut Random, frames: &mut Frames) {
 }
 
 fn break_line(random: &mut Random, frames: &mut Frames) {
-    let broken: [&[u8]; 8] = [
+    let broken: [&[u8]; 12] = [
         &[LINE, 3, 0, 0],
+        &[LINE, 3, 2, 1, 0x80, 0],
+        &[LINE, 3, 1, 2, 0x80, 0, 0x80, 0],
+        &[LINE, 3, 0, 1, 0x80],
+        &[LINE, 4, 0, 1, 0x80, 0],
         &[LINE, 0xff, 0, 2, 0x80, 0, 0x80, 0],
         &[LINE, 1, 1, 2, 0x80, 0, 0x80, 0],
         &[LINE, 2, 0, 3, 0x80, 0, 0x80, 0, 0x80, 0],
@@ -238,7 +245,8 @@ fn break_line(random: &mut Random, frames: &mut Frames) {
 fn name_absent(random: &mut Random, frames: &mut Frames) {
     let lines = frames.iter().filter(|frame| frame.first() == Some(&LINE));
     let own = lines.count() as u8;
-    let absent: [&[u8]; 5] = [
+    let absent: [&[u8]; 6] = [
+        &[LINE, 3, 1, 1, 0, own],
         &[LINE, 1, 0, 2, 0, own, 0x80, 0],
         &[LINE, 2, 0, 2, 0x80, 0, 0x7f, 0xff],
         &[LINE, 0, 32, 0],

@@ -27,7 +27,7 @@ pub fn scene(mut random: Random) -> Scene {
 /// A transported type and a set of allowed templates. Most come from families
 /// that go together; some are random.
 fn policy(random: &mut Random) -> (u8, u64) {
-    match random.below(20) {
+    match random.below(24) {
         0..=4 => (2, some_of(random, &[5, 9, 13, 13, 19, 35, 51, 51])),
         5..=7 => (1, some_of(random, &[7, 11, 15, 15, 19, 35, 51, 51])),
         8..=9 => (0, some_of(random, &[0, 4, 8, 12, 16, 32, 48, 60])),
@@ -40,6 +40,9 @@ fn policy(random: &mut Random) -> (u8, u64) {
             let most = random.bits() | random.bits();
             (random.below(6) as u8, most & !UNTYPED_TEMPLATES)
         }
+        // Seeds beside the keys that are derived from them, and alone.
+        19..=21 => (2, some_of(random, &[63, 63, 63, 13, 15, 15, 51, 51])),
+        22 => (random.pick(&[2, 4]), some_of(random, &[0, 3, 3, 3, 13])),
         _ => (
             random.below(6) as u8,
             random.pick(&[0, !UNTYPED_TEMPLATES, 1]),
@@ -94,12 +97,27 @@ fn learn_commands(scene: &mut Scene) {
 
 /// Two commands of which one undoes what the other does.
 fn matching_pair(random: &mut Random, templates: &[u8]) -> Vec<Recipe> {
-    if random.chance(50) {
-        return vec![recipe::encrypt(4), recipe::decrypt(8)];
-    }
     let template = random.pick(templates);
     let part = template & random.pick(&[4, 8, 16, 63]);
-    vec![recipe::wrap(part, 16), recipe::unwrap(32, template)]
+    let seed = seed_attributes(random);
+    match random.below(6) {
+        0 | 1 => vec![recipe::encrypt(4), recipe::decrypt(8)],
+        2 | 3 => vec![recipe::wrap(part, 16), recipe::unwrap(32, template)],
+        4 => vec![
+            recipe::encrypt_diversified(seed, 0),
+            recipe::decrypt_diversified(seed, 0),
+        ],
+        _ => vec![
+            recipe::wrap_diversified(part, seed, 1),
+            recipe::unwrap_diversified(seed, 1, template),
+        ],
+    }
+}
+
+/// What is asked of a key to derive from it: where keys of one role are about,
+/// only both roles tell a seed.
+fn seed_attributes(random: &mut Random) -> u8 {
+    random.pick(&[3, 20, 40, 60, 63])
 }
 
 /// Asks the checker itself about this one command under the scene's policy.
@@ -116,7 +134,9 @@ pub fn any_recipe(random: &mut Random, templates: &[u8]) -> Recipe {
     // What is asked of a key is mostly one role; sometimes more of a template.
     let part = first & random.pick(&[4, 8, 12, 63]);
     let extra = if random.chance(15) { second & 35 } else { 0 };
-    match random.below(11) {
+    let seed = seed_attributes(random);
+    let label = random.below(2) as u8;
+    match random.below(15) {
         0 => recipe::generate(first),
         1 => recipe::import(first),
         2 => recipe::encrypt(4 | extra),
@@ -126,6 +146,9 @@ pub fn any_recipe(random: &mut Random, templates: &[u8]) -> Recipe {
         6 => recipe::copy(part, second),
         7 => recipe::read_out(part),
         8 => recipe::generate_wrapped(first, 16),
+        9 | 10 => recipe::diversify(seed, label, second),
+        11 => recipe::derive(label),
+        12 => recipe::derive_out(part, label),
         _ => recipe::wander(random, templates),
     }
 }

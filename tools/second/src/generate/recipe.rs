@@ -30,6 +30,10 @@ pub fn dec(value: u8, key: u8) -> RawStep {
     [5, value, key, 0]
 }
 
+pub fn div(value: u8, label: u8) -> RawStep {
+    [6, 0, value, label]
+}
+
 /// What a parameter is meant for.
 #[derive(Clone, Copy, PartialEq)]
 pub enum Want {
@@ -148,6 +152,83 @@ pub fn generate_wrapped(template: u8, role: u8) -> Recipe {
     )
 }
 
+/// Derives a key from a stored one, and stores it.
+pub fn diversify(attributes: u8, label: u8, template: u8) -> Recipe {
+    recipe(
+        &[Want::Handle(attributes)],
+        &[
+            get(0, attributes),
+            div(1, label),
+            keep(2, template),
+            give_back(3),
+        ],
+        Gives::Handle(template),
+    )
+}
+
+/// Encrypts under a key that is derived for this alone.
+pub fn encrypt_diversified(attributes: u8, label: u8) -> Recipe {
+    recipe(
+        &[Want::Anything, Want::Handle(attributes)],
+        &[get(1, attributes), div(2, label), enc(0, 3), give_back(4)],
+        Gives::Ciphertext(1),
+    )
+}
+
+pub fn decrypt_diversified(attributes: u8, label: u8) -> Recipe {
+    recipe(
+        &[Want::Ciphertext, Want::Handle(attributes)],
+        &[get(1, attributes), div(2, label), dec(0, 3), give_back(4)],
+        Gives::Something,
+    )
+}
+
+pub fn wrap_diversified(key_attributes: u8, attributes: u8, label: u8) -> Recipe {
+    recipe(
+        &[Want::Handle(key_attributes), Want::Handle(attributes)],
+        &[
+            get(0, key_attributes),
+            get(1, attributes),
+            div(3, label),
+            enc(2, 4),
+            give_back(5),
+        ],
+        Gives::Ciphertext(1),
+    )
+}
+
+pub fn unwrap_diversified(attributes: u8, label: u8, template: u8) -> Recipe {
+    recipe(
+        &[Want::Ciphertext, Want::Handle(attributes)],
+        &[
+            get(1, attributes),
+            div(2, label),
+            dec(0, 3),
+            keep(4, template),
+            give_back(5),
+        ],
+        Gives::Handle(template),
+    )
+}
+
+/// Derives from its argument and gives that back.
+pub fn derive(label: u8) -> Recipe {
+    recipe(
+        &[Want::Anything],
+        &[div(0, label), give_back(1)],
+        Gives::Something,
+    )
+}
+
+/// Derives from a stored key and gives that back.
+pub fn derive_out(attributes: u8, label: u8) -> Recipe {
+    recipe(
+        &[Want::Handle(attributes)],
+        &[get(0, attributes), div(1, label), give_back(2)],
+        Gives::Something,
+    )
+}
+
 /// Uses a key as if it were a handle.
 pub fn get_twice(attributes: u8, further: u8) -> Recipe {
     recipe(
@@ -220,7 +301,7 @@ pub fn wander(random: &mut Random, templates: &[u8]) -> Recipe {
 impl Wanderer<'_> {
     fn add_step(&mut self) {
         let template = self.random.pick(self.templates);
-        let (step, sort) = match self.random.below(10) {
+        let (step, sort) = match self.random.below(12) {
             0 | 1 => (make(template), Sort::Handle(template)),
             2 => match self.any_value() {
                 Some(value) => (keep(value, template), Sort::Handle(template)),
@@ -228,6 +309,7 @@ impl Wanderer<'_> {
             },
             3..=5 => self.get_step(template),
             6 | 7 => self.cipher_step(enc, template),
+            8 | 9 => self.derive_step(template),
             _ => self.cipher_step(dec, template),
         };
         self.steps.push(step);
@@ -263,6 +345,18 @@ impl Wanderer<'_> {
         match (value, key) {
             (Some(value), Some(key)) => (op(value, key), Sort::Public),
             _ => (make(template), Sort::Handle(template)),
+        }
+    }
+
+    /// Derives, if possible from a key; what comes of a key is a key again.
+    fn derive_step(&mut self, template: u8) -> (RawStep, Sort) {
+        let label = self.random.below(2) as u8;
+        if let Some(key) = self.value_where(|sort| sort == Sort::Key) {
+            return (div(key, label), Sort::Key);
+        }
+        match self.any_value() {
+            Some(value) => (div(value, label), Sort::Public),
+            None => (make(template), Sort::Handle(template)),
         }
     }
 

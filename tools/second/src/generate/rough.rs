@@ -85,13 +85,14 @@ impl Rough {
         let op = match (returns, made) {
             (true, _) => 0,
             (false, 0) => 2,
-            (false, _) => 1 + self.field(5),
+            (false, _) => 1 + self.field(6),
         };
         match op {
             0 => [0, self.field(made), self.unused(), self.unused()],
             1 => [1, self.field(made), self.unused(), self.attributes()],
             2 => [2, self.unused(), self.unused(), self.field(64)],
             3 => [3, self.field(made), self.unused(), self.field(64)],
+            6 => [6, self.unused(), self.field(made), self.field(2)],
             _ => [op, self.field(made), self.field(made), self.unused()],
         }
     }
@@ -112,7 +113,7 @@ impl Rough {
     /// A line when so many lines are before it.
     fn line(&mut self, before: usize, parameters: &[u8]) -> Vec<u8> {
         let kind = match self.random.below(4) {
-            0 => self.field(3),
+            0 => self.field(4),
             _ => 0,
         };
         let (command, count) = match kind {
@@ -121,6 +122,7 @@ impl Rough {
                 let own = parameters.get(usize::from(command));
                 (command, own.copied().unwrap_or(0))
             }
+            3 => (self.field(2), 1),
             _ => (self.unused(), 2),
         };
         let wrong_count = self.random.chance(self.faults);

@@ -10,6 +10,7 @@ use crate::text;
 /// The kinds of session lines in which the attacker computes.
 pub const ENCRYPTS: u8 = 1;
 pub const DECRYPTS: u8 = 2;
+const DERIVES: u8 = 3;
 
 /// What a line is likely to have given.
 #[derive(Clone, Copy)]
@@ -106,6 +107,11 @@ impl Scene {
         self.add_line(kind, 0, &[value, key], made)
     }
 
+    /// Adds a line in which the attacker derives by himself.
+    pub fn derive(&mut self, label: u8, value: u16) -> u16 {
+        self.add_line(DERIVES, label, &[value], Made::Something)
+    }
+
     fn add_line(&mut self, kind: u8, command: u8, arguments: &[u16], made: Made) -> u16 {
         let mut frame = vec![3, kind, command, arguments.len() as u8];
         for argument in arguments {
@@ -131,8 +137,13 @@ impl Scene {
     }
 
     fn compute_something(&mut self) {
-        let kind = self.random.pick(&[ENCRYPTS, ENCRYPTS, DECRYPTS]);
+        let kind = self.random.pick(&[ENCRYPTS, ENCRYPTS, DECRYPTS, DERIVES]);
         let value = self.anything();
+        if kind == DERIVES {
+            let label = self.random.below(2) as u8;
+            self.derive(label, value);
+            return;
+        }
         let key = match self.made_by(value) {
             Made::Ciphertext(key) if self.random.chance(50) => key,
             _ => self.anything(),

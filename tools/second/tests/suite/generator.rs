@@ -39,6 +39,7 @@ fn step_bytes(step: Step) -> [u8; 4] {
         Step::Store { value, template } => [3, value, 0, template],
         Step::Encrypt { value, key } => [4, value, key, 0],
         Step::Decrypt { value, key } => [5, value, key, 0],
+        Step::Derive { value, label } => [6, 0, value, label],
     }
 }
 
@@ -56,6 +57,7 @@ fn line_frame(old: &Line, rename: impl Fn(u16) -> u16) -> Frame {
         Action::Call { command } => line(0, command, &arguments),
         Action::Encrypt => line(1, 0, &arguments),
         Action::Decrypt => line(2, 0, &arguments),
+        Action::Derive { label } => line(3, label, &arguments),
     }
 }
 

@@ -2,6 +2,7 @@
 //! marked cases, the limits, each refusal, and the readings taken.
 
 mod build;
+mod derived;
 mod document;
 mod generator;
 mod limits;

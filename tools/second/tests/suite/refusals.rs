@@ -94,7 +94,10 @@ fn fields_that_an_op_does_not_use_are_0() {
         [3, 0, 1, 0],
         [4, 0, 0, 1],
         [5, 0, 0, 1],
-        [6, 0, 0, 0],
+        [6, 1, 0, 0],
+        [6, 0, 0, 2],
+        [6, 0, 0, 255],
+        [7, 0, 0, 0],
         [255, 0, 0, 0],
         [1, 0, 0, 64],
         [2, 0, 0, 64],
@@ -130,7 +133,11 @@ fn broken_session_lines_are_4() {
         vec![3],
         vec![3, 0],
         vec![3, 0, 0],
-        line(3, 0, &[one]),
+        line(3, 2, &[one]),
+        line(3, 255, &[one]),
+        line(3, 0, &[]),
+        line(3, 0, &[one, one]),
+        line(4, 0, &[one]),
         line(255, 0, &[one, one]),
         line(0, 0, &[one; 5]),
         line(1, 1, &[one, one]),
@@ -156,6 +163,8 @@ fn steps_that_name_values_not_yet_made_are_6() {
         command(1, &[[4, 1, 0, 0], [0, 0, 0, 0]]),
         command(1, &[[5, 0, 1, 0], [0, 0, 0, 0]]),
         command(1, &[[5, 255, 0, 0], [0, 0, 0, 0]]),
+        command(1, &[[6, 0, 1, 0], [0, 0, 0, 0]]),
+        command(0, &[[6, 0, 0, 1], [0, 0, 0, 0]]),
         command(1, &[[2, 0, 0, 0], [0, 2, 0, 0]]),
     ];
     for frame in unmade {
@@ -174,6 +183,8 @@ fn lines_that_name_what_is_not_there_are_6() {
         call(0, &[0]),
         line(1, 0, &[constant(0), 0]),
         line(2, 0, &[0x7fff, constant(0)]),
+        line(3, 1, &[0]),
+        line(3, 0, &[0x4000]),
     ];
     for frame in absent {
         let frames = [plain_policy(), identity(), frame];

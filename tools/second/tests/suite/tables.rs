@@ -156,6 +156,38 @@ fn a_stopped_line_gives_its_numbers_back() {
     assert_eq!(tables.arguments, table(1024, &arguments));
 }
 
+/// A step and a line that derive: the label is the step's last byte, stands in
+/// the command's place of the line's head, and comes before the value's row.
+#[test]
+fn derivations_are_left_in_the_tables() {
+    let frames = [
+        policy(0, &[]),
+        command(2, &[[6, 0, 1, 1], [6, 0, 2, 0], [0, 3, 0, 0]]),
+        call(0, &[constant(9), constant(8)]),
+        line(3, 1, &[constant(8)]),
+        line(3, 0, &[1]),
+        line(3, 1, &[0]),
+    ];
+    let (answer, tables) = run(&text(&frames));
+    assert_eq!(answer, [0, 0, 0, 0, 0xffff]);
+    let steps = [0x0101_0006, 0x0002_0006, 0x0000_0300];
+    assert_eq!(tables.steps, table(512, &steps));
+    let heads = [0x2_0000, 0x1_0103, 0x1_0003, 0x1_0103];
+    assert_eq!(tables.heads, table(1024, &heads));
+    let arguments = [0x8008_8009, 0x8008, 1, 0];
+    assert_eq!(tables.arguments, table(1024, &arguments));
+    let rows = [
+        0x1_0000_0009,
+        0x1_0000_0008,
+        0x5_0001_0001,
+        0x5_0000_0002,
+        0x5_0001_0003,
+    ];
+    assert_eq!(tables.rows, table(4096, &rows));
+    let outcomes = [0x4_0000_0003, 0x4_0000_0002, 0x4_0000_0003, 0x4_0000_0004];
+    assert_eq!(tables.outcomes, table(1024, &outcomes));
+}
+
 /// Four arguments fill all 64 bits.
 #[test]
 fn the_first_argument_is_lowest() {

@@ -17,6 +17,14 @@ pub enum Event {
     /// Number 0 is a run through all lines.
     Ending(u64),
     BreachedRun,
+    /// A run with values that were derived.
+    DerivedValues,
+    /// Acceptance, and a derived value that is stored under a template with A.
+    AcceptedWithDerivedKeys,
+    /// A line in which the attacker derives, and which gives a value.
+    OwnDerivation,
+    /// The first breached line gives a value that was derived.
+    DerivedBreach,
     /// A line that stops, and after it one that gives a value.
     StopInTheMiddle,
     /// A call with a place for its answer of another size.
@@ -34,6 +42,12 @@ impl fmt::Display for Event {
             Event::Ending(0) => write!(out, "ran through"),
             Event::Ending(number) => write!(out, "ending {number}"),
             Event::BreachedRun => write!(out, "breached"),
+            Event::DerivedValues => write!(out, "derived values"),
+            Event::AcceptedWithDerivedKeys => {
+                write!(out, "accepted, with derived keys that are always sensitive")
+            }
+            Event::OwnDerivation => write!(out, "derivations by the attacker"),
+            Event::DerivedBreach => write!(out, "breached by a line that gave a derived value"),
             Event::StopInTheMiddle => write!(out, "a stop in the middle"),
             Event::NoAnswer => write!(out, "calls with a wrong size of the answer"),
         }
@@ -43,12 +57,16 @@ impl fmt::Display for Event {
 /// Everything that must occur.
 fn expected() -> impl Iterator<Item = Event> {
     let refusals = (1..=7).chain([15]).map(Event::Refusal);
-    let verdicts = (16..=22).chain([0]).map(Event::Verdict);
+    let verdicts = (16..=23).chain([0]).map(Event::Verdict);
     let endings = [0, 32, 33].map(Event::Ending);
     let others = [
         Event::LateRefusal,
         Event::AcceptedWithValues,
         Event::BreachedRun,
+        Event::DerivedValues,
+        Event::AcceptedWithDerivedKeys,
+        Event::OwnDerivation,
+        Event::DerivedBreach,
         Event::StopInTheMiddle,
         Event::NoAnswer,
     ];
@@ -73,15 +91,26 @@ impl Census {
         }
     }
 
-    /// Counts a file that was read, by its verdict, the ending of its run,
-    /// whether that is breached, and the tables that it left.
-    pub fn count_file(&mut self, verdict: u64, ending: u64, breached: bool, left: &Tables) {
+    /// Counts a file that was read, by its verdict, the ending of its run, the
+    /// first breached line if there is one, and the tables that it left.
+    pub fn count_file(&mut self, verdict: u64, ending: u64, breach: Option<u64>, left: &Tables) {
         let lines = Lines::of(left);
+        let derived = left.rows.iter().any(|&row| is_derived(row));
         self.count(Event::Verdict(verdict));
         self.count(Event::Ending(ending));
         let others = [
             (Event::AcceptedWithValues, verdict == 0 && lines.gave_value),
-            (Event::BreachedRun, breached),
+            (Event::BreachedRun, breach.is_some()),
+            (Event::DerivedValues, derived),
+            (
+                Event::AcceptedWithDerivedKeys,
+                verdict == 0 && keeps_derived(left),
+            ),
+            (Event::OwnDerivation, lines.derived),
+            (
+                Event::DerivedBreach,
+                breach.is_some_and(|line| gave_derived(left, line)),
+            ),
             (Event::StopInTheMiddle, lines.gave_value_after_stop),
         ];
         for (event, _) in others.into_iter().filter(|(_, occurred)| *occurred) {
@@ -104,21 +133,47 @@ impl Census {
     }
 }
 
+/// The bit of an outcome that says that the line stopped.
+const STOPPED: u64 = 1 << 32;
+
+fn is_derived(row: u64) -> bool {
+    row >> 32 == 5
+}
+
+/// Whether a derived value is stored under a template with A.
+fn keeps_derived(left: &Tables) -> bool {
+    const ALWAYS_SENSITIVE: u64 = 2;
+    let guarding = |key: &&u64| *key & ALWAYS_SENSITIVE != 0;
+    let row = |key: &u64| (key >> 8 & 0xffff) as usize;
+    let mut rows = left.keys.iter().filter(guarding).map(row);
+    rows.any(|row| is_derived(left.rows[row]))
+}
+
+/// Whether a finished line gave a derived value.
+fn gave_derived(left: &Tables, line: u64) -> bool {
+    let outcome = left.outcomes[line as usize];
+    let row = (outcome & 0xffff) as usize;
+    outcome & STOPPED == 0 && is_derived(left.rows[row])
+}
+
 /// What the finished lines of a run have come to.
 #[derive(Default)]
 struct Lines {
     stopped: bool,
     gave_value: bool,
     gave_value_after_stop: bool,
+    /// In one that gave a value the attacker derived.
+    derived: bool,
 }
 
 impl Lines {
     fn of(left: &Tables) -> Lines {
-        const STOPPED: u64 = 1 << 32;
         let mut lines = Lines::default();
-        for outcome in left.outcomes.iter().take_while(|&&outcome| outcome != 0) {
+        let finished = left.outcomes.iter().take_while(|&&outcome| outcome != 0);
+        for (outcome, head) in finished.zip(&left.heads) {
             let stops = outcome & STOPPED != 0;
             lines.gave_value |= !stops;
+            lines.derived |= !stops && head & 0xff == 3;
             lines.gave_value_after_stop |= !stops && lines.stopped;
             lines.stopped |= stops;
         }

@@ -148,12 +148,11 @@ impl Comparison {
         }
         self.lender.keep_old(report.tables);
         let (number, ending) = (verdict.answer[0], run.answer[2]);
-        let breached = run.answer[4] != NO_LINE;
-        if number == 0 && breached {
+        let breach = Some(run.answer[4]).filter(|&line| line != NO_LINE);
+        if number == 0 && breach.is_some() {
             return Err("accepted and yet breached".into());
         }
-        self.census
-            .count_file(number, ending, breached, &run.tables);
+        self.census.count_file(number, ending, breach, &run.tables);
         Ok(())
     }
 
