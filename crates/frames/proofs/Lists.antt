@@ -2,7 +2,7 @@
 -- Assumes nothing.
 use mathlib.Core.Path.{◌≡◌, refl, sym, ◌∙◌}
 use mathlib.Core.Bool.{Bool, true, false, ◌&&◌, false≢true}
-use mathlib.Core.List.{List, [], ◌∷◌, ◌++◌, map, map_append, append_assoc, append-nil}
+use mathlib.Core.List.{List, [], ◌∷◌, ◌++◌, map, map-append, append_assoc, append-nil}
 use Prim.Native.Nat.{ℕ, zero, suc, ◌+◌, ◌-◌, ◌≤◌, ◌<◌}
 use native.Mathlib.Numerals.{add-one}
 use native.Mathlib.Omega.{arith}
@@ -86,7 +86,7 @@ map_replicate f (suc n) z = rw (map_replicate f n z)
 
 pub filled_map : {A B : Type 0} (f : A → B) (k : ℕ) (z : A) (xs : List A) → map f (filled k z xs) ≡ filled k (f z) (map f xs)
 unfolding filled
-filled_map f k z xs = rw (map_append f xs (replicate (k - length xs) z), length-map xs f, map_replicate f (k - length xs) z)
+filled_map f k z xs = rw (map-append f xs (replicate (k - length xs) z), length-map xs f, map_replicate f (k - length xs) z)
 
 -- ---- a list written over another, the first i elements so far
 pub over_more : {A : Type 0} (z : A) (xs d : List A) (i : ℕ) → i < length xs → i < length d

@@ -1,7 +1,7 @@
 -- Laws of the tables: an entry more is a thing more that they hold, and a command's entry tells its parameters.
 -- Assumes nothing.
 use mathlib.Core.Path.{◌≡◌, refl, sym, ◌∙◌}
-use mathlib.Core.List.{List, [], ◌∷◌, ◌++◌, map, map_append, append_assoc, append-nil}
+use mathlib.Core.List.{List, [], ◌∷◌, ◌++◌, map, map-append, append_assoc, append-nil}
 use Prim.Native.Nat.{ℕ, suc, ◌+◌, ◌-◌, ◌*◌, ◌%◌, ◌≤◌, ◌<◌}
 use native.Mathlib.Omega.{arith}
 use lib.ListN.{length, get_or, take, drop, set, replicate, length-append, length-map, get_or-append, get_or-map}
@@ -16,7 +16,7 @@ pub entry_written : {A : Type 0} (code : A → ℕ) (k n : ℕ) (xs : List A) (x
     → t ≡ padded k (map code xs) → n ≡ length xs → n < k → v ≡ code x → set t n v ≡ padded k (map code (xs ++ x ∷ []))
 unfolding padded filled
 entry_written code k n xs x t v held count room is =
-    rw (held, is, map_append code xs (x ∷ [])) (filled_more k 0 (map code xs) (code x) n (length-map xs code ∙ sym count) room)
+    rw (held, is, map-append code xs (x ∷ [])) (filled_more k 0 (map code xs) (code x) n (length-map xs code ∙ sym count) room)
 
 -- ---- the steps' table, sixteen places a command
 

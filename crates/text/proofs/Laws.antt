@@ -2,7 +2,7 @@
 -- Assumes nothing.
 use Prim.Native.Nat.{ℕ, zero, suc, ◌+◌, ◌-◌, ◌*◌, ◌≤◌, ◌<◌, min}
 use mathlib.Core.Path.{◌≡◌, refl, sym, ap, ◌∙◌, subst}
-use mathlib.Core.Bool.{Bool, true, false, cond, ◌&&◌, and_false}
+use mathlib.Core.Bool.{Bool, true, false, cond, ◌&&◌, and-false}
 use mathlib.Core.List.{List, [], ◌∷◌, ◌++◌, append_assoc}
 use native.Mathlib.Nat.{zero-lt-suc}
 use native.Mathlib.Numerals.{add-one, add-two}
@@ -115,7 +115,7 @@ module _ (x : ℕ) (other : x ≡ newline → ⊥) where
 
       at : (ts : List TextLine) → starts_well (on_first x ts) ≡ false
       at [] = refl
-      at (l ∷ ls) = rw (none l.body, and_false l.ended)
+      at (l ∷ ls) = rw (none l.body, and-false l.ended)
 
   digit_alone : starts_well (lines_of (x ∷ [])) ≡ false
   unfolding lines_of
@@ -128,7 +128,7 @@ module _ (x : ℕ) (other : x ≡ newline → ⊥) where
       at : (b : Bool) (ts : List TextLine) → starts_well (on_first x (cond b (record { body = []; ended = true } ∷ ts) (on_first y ts))) ≡ false
       at true ts = refl
       at false [] = refl
-      at false (l ∷ ls) = rw (le-ltb (digit_value y) 16 large, and_false (is_digit x), and_false l.ended)
+      at false (l ∷ ls) = rw (le-ltb (digit_value y) 16 large, and-false (is_digit x), and-false l.ended)
 
 ill_written : (l : TextLine) (ls : List TextLine) → starts_well (l ∷ ls) ≡ false → well_written l ≡ false
 unfolding well_written

@@ -3,7 +3,7 @@
 use Prim.Native.Nat.{ℕ, zero, suc, ◌+◌, ◌≤◌, ◌<◌}
 use mathlib.Core.Path.{◌≡◌, refl, sym, ap, ◌∙◌}
 use mathlib.Core.Bool.{Bool, true, false}
-use mathlib.Core.List.{List, [], ◌∷◌, ◌++◌, map, map_append}
+use mathlib.Core.List.{List, [], ◌∷◌, ◌++◌, map, map-append}
 use native.Mathlib.Omega.{arith}
 use native.Mathlib.Decide.{dec_lt}
 use borrow.Author.Tests.{le-ltb, ltb-false}
@@ -198,7 +198,7 @@ module _ {σ : State} {t ks gs : List ℕ} (C : Carries σ t ks gs) where
 
     codes_with_key : map (key_code σ.world.rows) (σ.token.stored ++ k ∷ [])
         ≡ map (key_code σ.world.rows) σ.token.stored ++ key_code σ.world.rows k ∷ []
-    codes_with_key = map_append (key_code σ.world.rows) σ.token.stored (k ∷ [])
+    codes_with_key = map-append (key_code σ.world.rows) σ.token.stored (k ∷ [])
 
     pub carries_key : {n x : ℕ} → n ≡ length σ.token.stored → x ≡ key_code σ.world.rows k
         → Carries (record { world = σ.world; token = record { stored = σ.token.stored ++ k ∷ [] } }) t (set ks n x) gs
@@ -247,7 +247,7 @@ module _ {σ : State} {t ks gs : List ℕ} (C : Carries σ t ks gs) where
           keys_are = C.keys_are;
           keys_fit = C.keys_fit;
           guards_are =
-              rw (next, take-suc-set gs n x room, map_append)
+              rw (next, take-suc-set gs n x room, map-append)
               (rw (place, C.guards_are, row, value_at_its_row v σ.world.rows there));
           guards_have_rows = λ i h. below i h (dec_lt i n);
           guards_fit = omega (arith, length-set gs n x, C.guards_fit);

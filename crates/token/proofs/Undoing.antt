@@ -2,7 +2,7 @@
 -- Assumes nothing.
 use Prim.Native.Nat.{ℕ, ◌≤◌, ◌<◌}
 use mathlib.Core.Path.{◌≡◌, sym, ap, ap₂, ◌∙◌}
-use mathlib.Core.List.{List, [], ◌++◌, map, map_append, append-nil, append_assoc}
+use mathlib.Core.List.{List, [], ◌++◌, map, map-append, append-nil, append_assoc}
 use native.Mathlib.Omega.{arith}
 use lib.ListN.{length, get_or, take, length-append, length-map, get_or-append}
 use lib.Seq.{take_at, take-take}
@@ -89,7 +89,7 @@ module _ {σ σ' : State} {t ks gs : List ℕ} (T : Tidy σ) (C : Carries σ' t 
       let n = length σ.token.stored in
       let grown = key_code (σ.world.rows ++ E.new_rows) in
       sym (take-take n (length σ'.token.stored) ks (counts_grown E).1)
-      ∙ ap (take n) (first_keys C ∙ ap₂ (λ vs. map (key_code vs)) E.rows_grown E.keys_grown ∙ map_append grown σ.token.stored E.new_keys)
+      ∙ ap (take n) (first_keys C ∙ ap₂ (λ vs. map (key_code vs)) E.rows_grown E.keys_grown ∙ map-append grown σ.token.stored E.new_keys)
       ∙ take_at (map grown σ.token.stored) (map grown E.new_keys) n (length-map σ.token.stored grown)
       ∙ codes_kept T E.new_rows
 

@@ -1,7 +1,7 @@
 -- Types by their codes: order and join of the types that two numbers stand for, found from the numbers.
 -- Assumes nothing.
 use mathlib.Core.Path.{◌≡◌, refl, sym, ap, ◌∙◌}
-use mathlib.Core.Bool.{Bool, true, false, cond, ◌&&◌, ◌||◌, and_false}
+use mathlib.Core.Bool.{Bool, true, false, cond, ◌&&◌, ◌||◌, and-false}
 use Prim.Native.Nat.{ℕ, ◌≤◌, ◌<◌}
 use native.Mathlib.Decide.{dec_lt}
 use native.Mathlib.Omega.{arith}
@@ -32,7 +32,7 @@ is_below_by_code a b = go (dec_lt a 6) (dec_lt b 6)
     go (yes p) (no q) =
         rw (none_past_types b (omega arith), nothing_below_none a p, ne_eqb a b (λ e. omega arith), ne_eqb b 2 (λ e. omega arith), ne_eqb b 5 (λ e. omega arith))
     go (no p) d =
-        simp (none_past_types a (omega arith), le-ltb a 6 (omega arith), le-ltb a 2 (omega arith), le-ltb a 5 (omega arith), and_false)
+        simp (none_past_types a (omega arith), le-ltb a 6 (omega arith), le-ltb a 2 (omega arith), le-ltb a 5 (omega arith), and-false)
 
 -- The join, in the cases that `join_of` tells apart: one of the two numbers is a type's code, none is, and both are.
 

@@ -3,7 +3,7 @@
 use Prim.Native.Nat.{ℕ, ◌/◌, ◌%◌, ◌≤◌, ◌<◌}
 use mathlib.Core.Path.{◌≡◌, refl, sym, ap, ap₂, ◌∙◌}
 use mathlib.Core.Bool.{Bool, true, false, true≢false}
-use mathlib.Core.List.{List, [], ◌∷◌, ◌++◌, map, map_append}
+use mathlib.Core.List.{List, [], ◌∷◌, ◌++◌, map, map-append}
 use native.Mathlib.Omega.{arith}
 use lib.Dec.{eqb}
 use lib.ListN.{length, length-map}
@@ -121,7 +121,7 @@ module _ {vs : List Value} (R : Rows vs) where
   pub codes_of_first : (ws : List Value) → row_codes (vs ++ ws) ≡ row_codes vs ++ map (value_code (vs ++ ws)) ws
   unfolding row_codes
   codes_of_first ws =
-      map_append (value_code (vs ++ ws)) vs ws
+      map-append (value_code (vs ++ ws)) vs ws
       ∙ ap (λ l. l ++ map (value_code (vs ++ ws)) ws)
       (map_of_same (const 0) (value_code (vs ++ ws)) (value_code vs) vs (λ k h. number_kept vs ws (value_at vs k) (parts_at R k h)))
 

@@ -1,0 +1,13 @@
+-- `frames::line::every_argument_names` meets its contract. The loop's invariant: the arguments from i on decide.
+-- Assumes nothing.
+use borrow.Author.Rules.{rules}
+use Prim.Native.Nat.{◌-◌}
+use mathlib.Core.Path.{refl}
+use Rattle.frames.proofs.Arguments.{Naming, naming_turn, naming_fails, naming_done}
+use Rattle.frames.proofs.line.every_argument_names.Given as goal
+
+abbrev pub invariant-loop-i : goal.invariant-loop-i
+invariant-loop-i l = Naming l.f l.m l.k l.i
+
+abbrev pub decreases-loop-i : goal.decreases-loop-i
+decreases-loop-i l = l.k - l.i

@@ -1,0 +1,15 @@
+-- `keys::records` meets its contract. The loop's invariant: the records of the first k numbers stand, and the others are empty.
+-- Assumes nothing.
+use Prim.Native.Nat.{◌-◌, ◌≤◌}
+use mathlib.Core.Path.{◌≡◌, ap, ◌∙◌}
+use native.Mathlib.Omega.{arith}
+use borrow.Author.Rules.{rules}
+use Rattle.keys.specs.Stored.{records_of}
+use Rattle.keys.proofs.Unpacking.{no_records, records_more}
+use Rattle.keys.proofs.records.Given as goal
+
+abbrev pub invariant-loop-k : goal.invariant-loop-k
+invariant-loop-k l = (l.k ≤ l.n) × (l.recs ≡ records_of l.keys l.k)
+
+abbrev pub decreases-loop-k : goal.decreases-loop-k
+decreases-loop-k l = l.n - l.k

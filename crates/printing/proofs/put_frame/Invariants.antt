@@ -1,0 +1,14 @@
+-- `printing::put_frame` meets its contract. The loop's invariant is `Writing`; the measure is how many bytes of the frame are left.
+-- Assumes nothing.
+use Prim.Native.Nat.{◌-◌}
+use native.Mathlib.Omega.{arith}
+use lib.ListN.{length, length-set}
+use borrow.Author.Rules.{rules}
+use Rattle.printing.proofs.Laws.{Writing, writing_starts, writing_goes_on, writing_ends}
+use Rattle.printing.proofs.put_frame.Given as goal
+
+abbrev pub invariant-loop-i : goal.invariant-loop-i
+invariant-loop-i l = Writing l.frame l.at l.initial.buffer l.buffer l.place l.i
+
+abbrev pub decreases-loop-i : goal.decreases-loop-i
+decreases-loop-i l = length l.frame - l.i

@@ -1,0 +1,41 @@
+-- `text::scan_line` meets its contract. The loop keeps `Scanning`, and each exit is a law on it; each turn leaves less of the input.
+-- Assumes nothing.
+use Prim.Native.Nat.{◌-◌}
+use mathlib.Core.Logic.{⊎_elim}
+use native.Mathlib.Omega.{arith}
+use lib.ListN.{length}
+use borrow.Author.Rules.{rules}
+use Rattle.text.proofs.Laws.{Scanning, start, broken_at_end, broken_first, broken_alone, broken_second, broken_empty, done, stored, full}
+use Rattle.text.proofs.scan_line.Goals as goal
+
+pub loop-i-init : goal.loop-i-init
+loop-i-init c = start _ _ _
+
+pub returns-then-i-input : goal.returns-then-i-input
+returns-then-i-input c = broken_at_end c.loop-i.invariant (omega arith)
+
+pub returns-then-high-gt15 : goal.returns-then-high-gt15
+returns-then-high-gt15 c =
+    broken_first c.loop-i.invariant (omega arith) (λ e. omega arith) (omega arith)
+
+pub returns-then-i-input-2 : goal.returns-then-i-input-2
+returns-then-i-input-2 c =
+    broken_alone c.loop-i.invariant (omega arith) (λ e. omega arith) (omega arith)
+
+pub returns-then-low-gt15 : goal.returns-then-low-gt15
+returns-then-low-gt15 c =
+    broken_second c.loop-i.invariant (omega arith) (λ e. omega arith) (omega arith)
+
+pub loop-i-preserved : goal.loop-i-preserved
+loop-i-preserved c =
+    let v = c.loop-i.invariant in
+    ⊎_elim
+    (λ w. stored v (omega arith) (omega arith) (omega arith) w.0.taken w.1 w.2 (omega arith))
+    (λ w. full v (omega arith) (omega arith) (omega arith) w.0.left w.1 w.2)
+    c.if-n-frame.branch
+
+pub returns-then-i-at : goal.returns-then-i-at
+returns-then-i-at c = broken_empty c.loop-i.invariant (omega arith) (omega arith) (omega arith)
+
+pub returns : goal.returns
+returns c = done c.loop-i.invariant (omega arith) (omega arith) (λ e. omega arith)
