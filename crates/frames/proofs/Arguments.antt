@@ -64,15 +64,15 @@ pub record Naming (f : List ℕ) (m k i : ℕ) : Type 0 where
 
 module _ {f : List ℕ} {m k i : ℕ} (v : Naming f m k i) where
   module _ (more : i < k) {x : ℕ} (is : ArgumentIs f i x) (r : Bool) (decides : r ≡ arg_names m (arg_of x)) where
-    pub naming_turn : not r ≡ false → Naming f m k (i + 1)
+    pub naming_turn : r ≡ true → Naming f m k (i + 1)
     naming_turn h = record {
       within = omega arith;
       whole = v.whole;
-      same = v.same ∙ rw (next_argument f i x (omega (arith, v.whole)) is, ← decides, not-false r h);
+      same = v.same ∙ rw (next_argument f i x (omega (arith, v.whole)) is, ← decides, h);
     }
 
-    pub naming_fails : not r ≡ true → false ≡ every (arg_names m) (args_of (drop 4 f))
-    naming_fails h = sym (v.same ∙ rw (next_argument f i x (omega (arith, v.whole)) is, ← decides, not-true r h))
+    pub naming_fails : r ≡ false → false ≡ every (arg_names m) (args_of (drop 4 f))
+    naming_fails h = sym (v.same ∙ rw (next_argument f i x (omega (arith, v.whole)) is, ← decides, h))
 
   pub naming_done : k ≤ i → true ≡ every (arg_names m) (args_of (drop 4 f))
   naming_done h = sym (v.same ∙ rw (no_argument f i (omega (arith, v.whole))))

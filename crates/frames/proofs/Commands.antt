@@ -42,8 +42,8 @@ formed_head f formed =
       whole = eqb-true (length f) (3 + 4 * byte_at f 2) three.1;
     }
 
-pub head_tells : (f : List ℕ) (b : Bool) → b ≡ head_formed f → not b ≡ false → HeadTells f
-head_tells f b is good = formed_head f (sym is ∙ not-false b good)
+pub head_tells : (f : List ℕ) (b : Bool) → b ≡ head_formed f → b ≡ true → HeadTells f
+head_tells f b is good = formed_head f (sym is ∙ good)
 
 -- the bytes from place k on
 pub rest_length : (k : ℕ) (f : List ℕ) → length (take (length f - k) (drop k f)) ≡ length f - k
@@ -62,13 +62,13 @@ command_stored c n u w k s ys is-u is-w are =
 
 -- ---- the refusals
 module _ (f : List ℕ) (kind : byte_at f 0 ≡ 2) (b : Bool) (is_b : b ≡ head_formed f) where
-  pub head_unformed : not b ≡ true → (n : ℕ) (k s : List ℕ) (m : ℕ) (h a : List ℕ) → Takes 1 n m f (turn.Refused 4) h a k s h a k s
+  pub head_unformed : b ≡ false → (n : ℕ) (k s : List ℕ) (m : ℕ) (h a : List ℕ) → Takes 1 n m f (turn.Refused 4) h a k s h a k s
   unfolding head_formed
   head_unformed unformed n k s m h a c counted held =
-      let e : head_formed f ≡ false = sym is_b ∙ not-true b unformed in
+      let e : head_formed f ≡ false = sym is_b ∙ unformed in
       refused 4 (is_in_place f (is_command f kind) counted refl ∙ rw e) (λ q. omega arith) held
 
-  module _ (good : not b ≡ false) (r : Command) (is_r : DecodedAs (take (length f - 3) (drop 3 f)) (byte_at f 1) (byte_at f 2) r) where
+  module _ (good : b ≡ true) (r : Command) (is_r : DecodedAs (take (length f - 3) (drop 3 f)) (byte_at f 1) (byte_at f 2) r) where
     tells : HeadTells f
     tells = head_tells f b is_b good
 
@@ -99,7 +99,7 @@ module _ (f : List ℕ) (kind : byte_at f 0 ≡ 2) (b : Bool) (is_b : b ≡ head
       refusal_is : (φ : File) → n ≡ length φ.commands → body_refusal φ command_kind f ≡ x
       unfolding head_formed
       refusal_is φ count =
-          let e : head_formed f ≡ true = sym is_b ∙ not-false b good in
+          let e : head_formed f ≡ true = sym is_b ∙ good in
           rw (e, ← count, is_x, is_p, is_q, steps_are, is_r.params_are)
 
       pub command_refused : (x ≡ 0 → ⊥) → (k s : List ℕ) (m : ℕ) (h a : List ℕ) → Takes 1 n m f (turn.Refused x) h a k s h a k s

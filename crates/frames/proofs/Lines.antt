@@ -58,10 +58,10 @@ record LineTells (f : List ℕ) : Type 0 where
   pub whole : length f ≡ 4 + 2 * byte_at f 3
   pub fits : head_fits (byte_at f 1) (byte_at f 2) (byte_at f 3) ≡ true
 
-line_tells : (f : List ℕ) (b : Bool) → b ≡ line_formed f → not b ≡ false → LineTells f
+line_tells : (f : List ℕ) (b : Bool) → b ≡ line_formed f → b ≡ true → LineTells f
 line_tells f b is good =
     let last = head_fits (byte_at f 1) (byte_at f 2) (byte_at f 3) in
-    let three = both (leb (byte_at f 1) 3 && leb (byte_at f 3) 4 && eqb (length f) (4 + 2 * byte_at f 3)) last (sym is ∙ not-false b good) in
+    let three = both (leb (byte_at f 1) 3 && leb (byte_at f 3) 4 && eqb (length f) (4 + 2 * byte_at f 3)) last (sym is ∙ good) in
     let two = both (leb (byte_at f 1) 3 && leb (byte_at f 3) 4) (eqb (length f) (4 + 2 * byte_at f 3)) three.0 in
     let one = both (leb (byte_at f 1) 3) (leb (byte_at f 3) 4) two.0 in
     record {
@@ -71,10 +71,10 @@ line_tells f b is good =
       fits = three.1;
     }
 
-pub line_whole : (f : List ℕ) (b : Bool) → b ≡ line_formed f → not b ≡ false → length f ≡ 4 + 2 * byte_at f 3
+pub line_whole : (f : List ℕ) (b : Bool) → b ≡ line_formed f → b ≡ true → length f ≡ 4 + 2 * byte_at f 3
 line_whole f b is good = (line_tells f b is good).whole
 
-pub line_few : (f : List ℕ) (b : Bool) → b ≡ line_formed f → not b ≡ false → byte_at f 3 ≤ 4
+pub line_few : (f : List ℕ) (b : Bool) → b ≡ line_formed f → b ≡ true → byte_at f 3 ≤ 4
 line_few f b is good = (line_tells f b is good).few
 
 -- ---- what a line names
@@ -87,13 +87,13 @@ command_missing number n params x past = rw (le-ltb number n past)
 
 module _ (f : List ℕ) (n m : ℕ) (commands : List ℕ) where
   module _ (called : byte_at f 1 ≡ 0) (b : Bool) (decides : b ≡ (ltb (byte_at f 2) n && eqb (byte_at f 3) (get_or commands (byte_at f 2) 0 % 256))) where
-    pub no_command : not b ≡ true → false ≡ line_named f n m commands
+    pub no_command : b ≡ false → false ≡ line_named f n m commands
     unfolding line_named
-    no_command h = rw (eq-eqb (byte_at f 1) 0 called, ← decides, not-true b h)
+    no_command h = rw (eq-eqb (byte_at f 1) 0 called, ← decides, h)
 
-    pub call_decided : not b ≡ false → (r : Bool) → r ≡ every (arg_names m) (args_of (drop 4 f)) → r ≡ line_named f n m commands
+    pub call_decided : b ≡ true → (r : Bool) → r ≡ every (arg_names m) (args_of (drop 4 f)) → r ≡ line_named f n m commands
     unfolding line_named
-    call_decided h r is = is ∙ rw (eq-eqb (byte_at f 1) 0 called, ← decides, not-false b h)
+    call_decided h r is = is ∙ rw (eq-eqb (byte_at f 1) 0 called, ← decides, h)
 
   pub compute_decided : (byte_at f 1 ≡ 0 → ⊥) → (r : Bool) → r ≡ every (arg_names m) (args_of (drop 4 f)) → r ≡ line_named f n m commands
   unfolding line_named
@@ -144,13 +144,13 @@ line_stored f m u v w x h a is-u is-v is-w is_x = record { head = rw (is-u, is-v
 
 -- ---- the refusals
 module _ (f : List ℕ) (kind : byte_at f 0 ≡ 3) (b : Bool) (is_b : b ≡ line_formed f) where
-  pub line_unformed : not b ≡ true → (n m : ℕ) (h a k : List ℕ) (place : ℕ) (s : List ℕ) → 1 ≤ place
+  pub line_unformed : b ≡ false → (n m : ℕ) (h a k : List ℕ) (place : ℕ) (s : List ℕ) → 1 ≤ place
       → Takes place n m f (turn.Refused 4) h a k s h a k s
   line_unformed unformed n m h a k place s here c counted held =
-      let e : line_formed f ≡ false = sym is_b ∙ not-true b unformed in
+      let e : line_formed f ≡ false = sym is_b ∙ unformed in
       refused 4 (is_in_place f (is_line f kind) counted (le-leb 1 place here) ∙ rw e) (λ q. omega arith) held
 
-  module _ (good : not b ≡ false) (n m : ℕ) (k : List ℕ) (q : Bool) (is_q : q ≡ line_named f n m k) (x : ℕ)
+  module _ (good : b ≡ true) (n m : ℕ) (k : List ℕ) (q : Bool) (is_q : q ≡ line_named f n m k) (x : ℕ)
       (is_x : x ≡ (true else 4 then ltb m 1024 else 5 then q else 6 then 0)) where
     tells : LineTells f
     tells = line_tells f b is_b good
@@ -162,7 +162,7 @@ module _ (f : List ℕ) (kind : byte_at f 0 ≡ 3) (b : Bool) (is_b : b ≡ line
     unfolding line_named
     refusal_is {c} counted held =
         let cs = c.file.commands in
-        let e : line_formed f ≡ true = sym is_b ∙ not-false b good in
+        let e : line_formed f ≡ true = sym is_b ∙ good in
         let same : q ≡ line_names cs m (line_of f) =
         is_q
         ∙ rw (counted.commands_are, ← count)

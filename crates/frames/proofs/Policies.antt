@@ -109,14 +109,14 @@ module _ (f : List ℕ) (kind : byte_at f 0 ≡ 1) where
       decided : body_refusal nothing_read.file policy_kind f ≡ (r else 7 then 0)
       decided = rw (eq-eqb (length f) 10 whole, le-leb (byte_at f 1) 5 known, decides, the_set)
 
-      pub policy_unlawful : not r ≡ true → (n m : ℕ) (h a k s : List ℕ) → Takes 0 n m f (turn.Refused 7) h a k s h a k s
-      policy_unlawful h = policy_refused 6 (decided ∙ rw (not-true r h))
+      pub policy_unlawful : r ≡ false → (n m : ℕ) (h a k s : List ℕ) → Takes 0 n m f (turn.Refused 7) h a k s h a k s
+      policy_unlawful h = policy_refused 6 (decided ∙ rw (h))
 
-      pub policy_taken : not r ≡ false → (n m : ℕ) (h a k s : List ℕ) → Takes 0 n m f (turn.Policy (byte_at f 1) set) h a k s h a k s
+      pub policy_taken : r ≡ true → (n m : ℕ) (h a k s : List ℕ) → Takes 0 n m f (turn.Policy (byte_at f 1) set) h a k s h a k s
       unfolding turn_of
       policy_taken good-set n m h a k s c counted held =
           let e = is_in_place f (is_policy f kind) counted refl in
-          taken f (is_policy f kind) (e ∙ decided ∙ rw (not-false r good-set)) (rw the_set)
+          taken f (is_policy f kind) (e ∙ decided ∙ rw (good-set)) (rw the_set)
           (record {
             heads_are = held.heads_are;
             arguments_are = held.arguments_are;

@@ -136,22 +136,22 @@ module _ (s : Step) (fields : Fields) (are : (t : ℕ) → fields_meant fields �
     formed_by_fields = rw (lt-ltb s.op 7 (omega arith), ← are s.t)
 
     module _ (x : Bool) (is_x : x ≡ field_formed (meant fields.0) s.a) where
-      pub a_unformed : not x ≡ true → false ≡ step_formed s
-      a_unformed h = rw (formed_by_fields, ← is_x, not-true x h)
+      pub a_unformed : x ≡ false → false ≡ step_formed s
+      a_unformed h = rw (formed_by_fields, ← is_x, h)
 
-      module _ (good : not x ≡ false) (y : Bool) (is_y : y ≡ field_formed (meant fields.1) s.b) where
-        pub b_unformed : not y ≡ true → false ≡ step_formed s
-        b_unformed h = rw (formed_by_fields, ← is_x, not-false x good, ← is_y, not-true y h)
+      module _ (good : x ≡ true) (y : Bool) (is_y : y ≡ field_formed (meant fields.1) s.b) where
+        pub b_unformed : y ≡ false → false ≡ step_formed s
+        b_unformed h = rw (formed_by_fields, ← is_x, good, ← is_y, h)
 
-        pub t_decides : not y ≡ false → (w : Bool) → w ≡ field_formed (meant fields.2) s.t → w ≡ step_formed s
-        t_decides h w is = is ∙ rw (formed_by_fields, ← is_x, not-false x good, ← is_y, not-false y h)
+        pub t_decides : y ≡ true → (w : Bool) → w ≡ field_formed (meant fields.2) s.t → w ≡ step_formed s
+        t_decides h w is = is ∙ rw (formed_by_fields, ← is_x, good, ← is_y, h)
 
   module _ (n : ℕ) (x : Bool) (is_x : x ≡ field_names n (meant fields.0) s.a) where
-    pub a_unnamed : not x ≡ true → false ≡ step_names n s
-    a_unnamed h = rw (← are s.t, ← is_x, not-true x h)
+    pub a_unnamed : x ≡ false → false ≡ step_names n s
+    a_unnamed h = rw (← are s.t, ← is_x, h)
 
-    pub b_decides : not x ≡ false → (y : Bool) → y ≡ field_names n (meant fields.1) s.b → y ≡ step_names n s
-    b_decides h y is = is ∙ rw (← are s.t, ← is_x, not-false x h)
+    pub b_decides : x ≡ true → (y : Bool) → y ≡ field_names n (meant fields.1) s.b → y ≡ step_names n s
+    b_decides h y is = is ∙ rw (← are s.t, ← is_x, h)
 
 pub unknown_op : (s : Step) → 6 < s.op → false ≡ step_formed s
 unknown_op s h = rw (le-ltb s.op 7 h)
@@ -180,22 +180,22 @@ module _ (n : ℕ) (xs : List Step) (room : n ≤ length xs) (i : ℕ) (more : i
       ∙ ap (λ (l : List Step). get_or xs i no_step ∷ l) (next_of no_step n xs room (i + 1) more)
 
 module _ {whole : Bool} {n i : ℕ} {xs : List Step} where
-  pub formed_turn : Asking whole formed_from n xs i → i < n → (r : Bool) → r ≡ step_formed (get_or xs i no_step) → not r ≡ false
+  pub formed_turn : Asking whole formed_from n xs i → i < n → (r : Bool) → r ≡ step_formed (get_or xs i no_step) → r ≡ true
       → Asking whole formed_from n xs (i + 1)
   formed_turn v more r is h = record {
     few = v.few;
     all = v.all;
-    same = v.same ∙ rw (next_of no_step n xs (omega (arith, v.all)) i more, ← is, not-false r h);
+    same = v.same ∙ rw (next_of no_step n xs (omega (arith, v.all)) i more, ← is, h);
   }
 
-  pub formed_fails : Asking whole formed_from n xs i → i < n → (r : Bool) → r ≡ step_formed (get_or xs i no_step) → not r ≡ true → whole ≡ false
-  formed_fails v more r is h = v.same ∙ rw (next_of no_step n xs (omega (arith, v.all)) i more, ← is, not-true r h)
+  pub formed_fails : Asking whole formed_from n xs i → i < n → (r : Bool) → r ≡ step_formed (get_or xs i no_step) → r ≡ false → whole ≡ false
+  formed_fails v more r is h = v.same ∙ rw (next_of no_step n xs (omega (arith, v.all)) i more, ← is, h)
 
   pub formed_done : Asking whole formed_from n xs i → n ≤ i → whole ≡ true
   formed_done v h = v.same ∙ rw (none_of no_step n xs (omega (arith, v.all)) i h)
 
   module _ (p : ℕ) where
-    pub names_turn : Asking whole (names_from p) n xs i → i < n → (r : Bool) → r ≡ step_names (p + i) (get_or xs i no_step) → not r ≡ false
+    pub names_turn : Asking whole (names_from p) n xs i → i < n → (r : Bool) → r ≡ step_names (p + i) (get_or xs i no_step) → r ≡ true
         → Asking whole (names_from p) n xs (i + 1)
     unfolding names_made
     names_turn v more r is h =
@@ -203,13 +203,13 @@ module _ {whole : Bool} {n i : ℕ} {xs : List Step} where
         record {
           few = v.few;
           all = v.all;
-          same = v.same ∙ rw (next_of no_step n xs (omega (arith, v.all)) i more, ← is, not-false r h, e);
+          same = v.same ∙ rw (next_of no_step n xs (omega (arith, v.all)) i more, ← is, h, e);
         }
 
-    pub names_fails : Asking whole (names_from p) n xs i → i < n → (r : Bool) → r ≡ step_names (p + i) (get_or xs i no_step) → not r ≡ true
+    pub names_fails : Asking whole (names_from p) n xs i → i < n → (r : Bool) → r ≡ step_names (p + i) (get_or xs i no_step) → r ≡ false
         → false ≡ whole
     unfolding names_made
-    names_fails v more r is h = sym (v.same ∙ rw (next_of no_step n xs (omega (arith, v.all)) i more, ← is, not-true r h))
+    names_fails v more r is h = sym (v.same ∙ rw (next_of no_step n xs (omega (arith, v.all)) i more, ← is, h))
 
     pub names_done : Asking whole (names_from p) n xs i → n ≤ i → true ≡ whole
     unfolding names_made

@@ -15,13 +15,13 @@ pub overflow_mul-n : goal.overflow_mul-n
 overflow_mul-n c = omega (arith, sum_small c.loop-i.invariant (search rules))
 
 pub overflow_cast-n : goal.overflow_cast-n
-overflow_cast-n c = omega (arith, c.shared_slice_known-1.given c.loop-i.i)
+overflow_cast-n c = omega (arith, c.type_inv.part c.loop-i.i)
 
 pub overflow_add-n : goal.overflow_add-n
-overflow_add-n c = omega (arith, sum_small c.loop-i.invariant (search rules), c.shared_slice_known-1.given c.loop-i.i)
+overflow_add-n c = omega (arith, sum_small c.loop-i.invariant (search rules), c.type_inv.part c.loop-i.i)
 
 pub loop-i-preserved : goal.loop-i-preserved
-loop-i-preserved c = sum_turn c.loop-i.invariant (search rules) (omega (arith, c.shared_slice_known-1.given c.loop-i.i))
+loop-i-preserved c = sum_turn c.loop-i.invariant (search rules) (omega (arith, c.type_inv.part c.loop-i.i))
 
 pub returns : goal.returns
 returns c = sum_done c.loop-i.invariant c.loop-i-test.false

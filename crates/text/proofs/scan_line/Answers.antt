@@ -7,6 +7,7 @@ use lib.ListN.{length}
 use borrow.Author.Rules.{rules}
 use Rattle.text.proofs.Laws.{Scanning, start, broken_at_end, broken_first, broken_alone, broken_second, broken_empty, done, stored, full}
 use Rattle.text.proofs.scan_line.Goals as goal
+use Rattle.text.proofs.scan_line.Goals.{then-n-frame, else-n-frame}
 
 pub loop-i-init : goal.loop-i-init
 loop-i-init c = start _ _ _
@@ -29,10 +30,10 @@ returns-then-low-gt15 c =
 pub loop-i-preserved : goal.loop-i-preserved
 loop-i-preserved c =
     let v = c.loop-i.invariant in
-    ⊎_elim
-    (λ w. stored v (omega arith) (omega arith) (omega arith) w.0.taken w.1 w.2 (omega arith))
-    (λ w. full v (omega arith) (omega arith) (omega arith) w.0.left w.1 w.2)
-    c.if-n-frame.branch
+    elim c.if-n-frame.branch [
+      then-n-frame w ↦ stored v (omega arith) (omega arith) (omega arith) w.if-n-frame.true w.frame-is w.n-is (omega arith)
+      | else-n-frame w ↦ full v (omega arith) (omega arith) (omega arith) w.if-n-frame.false w.frame-is w.n-is
+    ]
 
 pub returns-then-i-at : goal.returns-then-i-at
 returns-then-i-at c = broken_empty c.loop-i.invariant (omega arith) (omega arith) (omega arith)

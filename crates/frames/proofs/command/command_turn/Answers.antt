@@ -12,8 +12,8 @@ returns-then-not-head_formed c = head_unformed _ (search rules) _ c.head_formed.
 pub slice_bounds-decode-count : goal.slice_bounds-decode-count
 slice_bounds-decode-count c = omega (arith, head_tells _ _ c.head_formed.ensures c.if-not-head_formed.false)
 
-pub slice_bounds_decode_start : goal.slice_bounds_decode_start
-slice_bounds_decode_start c = omega (arith, head_tells _ _ c.before.head-formed.ensures c.if1.false)
+pub slice_bounds-decode-start : goal.slice_bounds-decode-start
+slice_bounds-decode-start c = omega (arith, head_tells _ _ c.head_formed.ensures c.if-not-head_formed.false)
 
 pub bounds-f-1 : goal.bounds-f-1
 bounds-f-1 c = omega (arith, head_tells _ _ c.head_formed.ensures c.if-not-head_formed.false)
@@ -35,14 +35,14 @@ names_made-requires c = search (rules, few_steps)
 pub returns-then-refusal-ne0 : goal.returns-then-refusal-ne0
 returns-then-refusal-ne0 c =
     let formed = c.steps_formed in
-    let named = low.before.made_names in
+    let named = c.names_made in
     let v = c.args in
     command_refused _ (search rules) _ c.head_formed.ensures c.if-not-head_formed.false _ c.decode-c.ensures
     formed.result named.result formed.ensures named.ensures v.n _ c.lowest-refusal.ensures c.if-refusal-ne0.true _ _
 
 pub store_command-requires : goal.store_command-requires
 store_command-requires c = (
-  room_left c.steps_formed.result c.before.before.before.before.made_names.result
+  room_left c.steps_formed.result c.names_made.result
       _ _ _ c.lowest-refusal.ensures c.if-refusal-ne0.false,
   search rules,
   search rules,

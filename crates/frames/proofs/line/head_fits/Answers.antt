@@ -2,6 +2,7 @@
 -- Assumes nothing.
 use Rattle.model.proofs.Tests.{past}
 use Rattle.frames.proofs.Lines.{fits_above}
+use native.Mathlib.Omega.{arith}
 use Rattle.frames.proofs.line.head_fits.Goals as goal
 
 pub returns-in-0 : goal.returns-in-0
@@ -16,4 +17,4 @@ returns-in-2 c = rw c.in-2.is
 pub returns-in_default : goal.returns-in_default
 returns-in_default c =
     let a = c.args in
-    fits_above a.kind a.command a.count (past 3 a.kind c.in_default.in_default-own.rest)
+    fits_above a.kind a.command a.count (omega arith)

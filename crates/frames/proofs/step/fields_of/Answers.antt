@@ -3,6 +3,7 @@
 use lib.ListN.{get_or-eq_default}
 use Rattle.model.specs.Step.{ops, Unknown}
 use Rattle.model.proofs.Tests.{past}
+use native.Mathlib.Omega.{arith}
 use Rattle.frames.proofs.step.fields_of.Goals as goal
 
 pub returns-in-0 : goal.returns-in-0
@@ -27,4 +28,4 @@ pub returns-in-6 : goal.returns-in-6
 returns-in-6 c = λ t. rw c.in-6.is
 
 pub returns-in_default : goal.returns-in_default
-returns-in_default c = λ t. rw (get_or-eq_default (ops t) Unknown {n = c.args.op} ?)
+returns-in_default c = λ t. rw (get_or-eq_default (ops t) Unknown {n = c.args.op} (omega arith))

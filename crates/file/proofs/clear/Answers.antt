@@ -1,0 +1,26 @@
+-- `file::clear` meets its contract: what was passed is zero, and the rest is as it was.
+-- Assumes nothing.
+use mathlib.Core.Path.{◌≡◌, refl, ◌∙◌}
+use mathlib.Core.List.{◌++◌}
+use Prim.Native.Nat.{◌-◌, ◌≤◌}
+use native.Mathlib.Omega.{arith}
+use lib.ListN.{length, drop, length-set}
+use borrow.Author.Fill.{fill_more}
+use borrow.Author.Rules.{rules}
+use Rattle.model.specs.Tables.{zeros}
+use Rattle.file.proofs.Clearing.{all_cleared}
+use Rattle.file.proofs.clear.Goals as goal
+
+pub loop-i-init : goal.loop-i-init
+loop-i-init c = (search rules, refl, refl)
+
+pub loop-i-preserved : goal.loop-i-preserved
+loop-i-preserved c =
+    let loop = c.loop-i in (
+      search rules,
+      length-set loop.t loop.i 0 ∙ loop.invariant.1,
+      rw loop.invariant.2 (fill_more loop.i 0 c.args.t.now (omega arith)),
+    )
+
+pub returns : goal.returns
+returns c = all_cleared _ _ _ c.loop-i.invariant.0 (omega arith) c.loop-i.invariant.2
