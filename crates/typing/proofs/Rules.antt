@@ -66,12 +66,12 @@ pub derive_by_code : (y : ℕ) → (eqb y 4 || eqb y 0) ≡ derive_ok (type_of_c
 derive_by_code y = cc (is_seed y, is_un y)
 
 pub derived_as_data : (l y : ℕ) → y ≡ 4 → l ≡ 0 → TData ≡ derive_type l (type_of_code y)
-derived_as_data l y seed zero-label = rw (is_seed y, eq-eqb y 4 seed, zero-label)
+derived_as_data l y seed zero_label = rw (is_seed y, eq-eqb y 4 seed, zero_label)
 
 pub derived_as_wrap : (l y : ℕ) → y ≡ 4 → (l ≡ 0 → ⊥) → Wrap ≡ derive_type l (type_of_code y)
-derived_as_wrap zero y seed other-label = absurd (other-label refl)
-derived_as_wrap (suc zero) y seed other-label = rw (is_seed y, eq-eqb y 4 seed)
-derived_as_wrap (suc (suc l)) y seed other-label = rw (is_seed y, eq-eqb y 4 seed)
+derived_as_wrap zero y seed other_label = absurd (other_label refl)
+derived_as_wrap (suc zero) y seed other_label = rw (is_seed y, eq-eqb y 4 seed)
+derived_as_wrap (suc (suc l)) y seed other_label = rw (is_seed y, eq-eqb y 4 seed)
 
 pub derived_openly : (l y : ℕ) → (y ≡ 4 → ⊥) → Un ≡ derive_type l (type_of_code y)
 derived_openly l y other = rw (is_seed y, ne_eqb y 4 other)

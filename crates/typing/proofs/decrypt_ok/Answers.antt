@@ -1,6 +1,5 @@
 -- `typing::decrypt_ok` meets its contract: its three tests are the model's, at the codes.
 -- Assumes nothing.
-use borrow.Author.Rules.{rules}
 use Rattle.typing.proofs.Rules.{decrypt_by_code}
 use Rattle.typing.proofs.decrypt_ok.Goals as goal
 

@@ -1,6 +1,5 @@
 -- `typing::encrypt_ok` meets its contract: one case for a wrapping key, and one for any other.
 -- Assumes nothing.
-use borrow.Author.Rules.{rules}
 use Rattle.typing.proofs.Rules.{encrypt_under_wrap, encrypt_under_other}
 use Rattle.typing.proofs.encrypt_ok.Goals as goal
 

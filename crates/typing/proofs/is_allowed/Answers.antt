@@ -1,6 +1,5 @@
 -- `typing::is_allowed` meets its contract: a template that is one of the 64 is allowed where its bit of the set is 1.
 -- Assumes nothing.
-use borrow.Author.Rules.{rules}
 use borrow.Author.Tests.{lt-ltb, le-ltb}
 use Rattle.typing.proofs.is_allowed.Goals as goal
 

