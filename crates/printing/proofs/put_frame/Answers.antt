@@ -11,10 +11,10 @@ pub loop-i-init : goal.loop-i-init
 loop-i-init c = writing_starts
 
 pub digit-requires : goal.digit-requires
-digit-requires c = omega (arith, c.type_inv.bytes c.loop-i.i)
+digit-requires c = omega (arith, c.type_inv.frame c.loop-i.i)
 
 pub digit-requires-in-loop-i : goal.digit-requires-in-loop-i
-digit-requires-in-loop-i c = omega (arith, c.type_inv.bytes c.loop-i.i)
+digit-requires-in-loop-i c = omega (arith, c.type_inv.frame c.loop-i.i)
 
 pub bounds-buffer-place-in-loop-i : goal.bounds-buffer-place-in-loop-i
 bounds-buffer-place-in-loop-i c = simp length-set (omega arith)
