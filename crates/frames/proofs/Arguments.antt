@@ -1,7 +1,7 @@
 -- Laws of a session line's arguments: each read from its two bytes, tested for what it names, and all coded in one number.
 -- Assumes nothing.
 use mathlib.Core.Path.{◌≡◌, sym, ap, ◌∙◌}
-use mathlib.Core.Bool.{Bool, true, false, not}
+use mathlib.Core.Bool.{Bool, true, false}
 use mathlib.Core.List.{List, [], ◌∷◌}
 use Prim.Native.Nat.{ℕ, suc, ◌+◌, ◌-◌, ◌*◌, ◌^◌, ◌≤◌, ◌<◌}
 use native.Mathlib.Nat.{pow-suc, pow-le-pow_right}
@@ -9,7 +9,7 @@ use native.Mathlib.Decide.{dec_lt}
 use native.Mathlib.Omega.{arith}
 use lib.Dec.{ltb, lit<}
 use lib.ListN.{length, take, drop, length-drop, drop_of_length-le}
-use borrow.Author.Tests.{lt-leb, le-leb, not-true, not-false}
+use borrow.Author.Tests.{lt-leb, le-leb}
 use Rattle.model.specs.Basics.{every}
 use Rattle.model.specs.Frame.{byte_at, arg_of, args_of, arg_names}
 use Rattle.model.specs.Tables.{arg_code, args_code}

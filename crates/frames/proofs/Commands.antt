@@ -1,14 +1,14 @@
 -- Laws of a command's frame: what its form tells, what is decoded of it, its refusals, and what stands in the tables once it is taken.
 -- Assumes nothing.
 use mathlib.Core.Path.{◌≡◌, refl, sym, ap, ◌∙◌}
-use mathlib.Core.Bool.{Bool, true, false, not, ◌&&◌}
+use mathlib.Core.Bool.{Bool, true, false, ◌&&◌}
 use mathlib.Core.List.{List, ◌++◌, map, append_assoc}
 use Prim.Native.Nat.{ℕ, ◌+◌, ◌-◌, ◌*◌, ◌≤◌}
 use native.Mathlib.Omega.{arith}
 use lib.Dec.{leb, ltb, eqb}
 use lib.ListN.{length, take, drop, set, length-drop}
 use lib.Seq.{drop-drop}
-use borrow.Author.Tests.{leb-true, eqb-true, not-true, not-false}
+use borrow.Author.Tests.{leb-true, eqb-true}
 use Rattle.model.specs.Basics.{◌else◌then◌, every}
 use Rattle.model.specs.Frame.{File, byte_at, steps_of, command_of, step_formed, returns_last, names_made, command_kind, body_refusal}
 use Rattle.model.specs.Tables.{padded, step_code, command_code}

@@ -9,7 +9,7 @@ use native.Mathlib.Decide.{dec_lt}
 use native.Mathlib.Omega.{arith}
 use lib.Dec.{T, eqb}
 use lib.ListN.{length, take, drop}
-use borrow.Author.Tests.{eq-eqb, ne_eqb, lt-ltb, lt-leb, le-leb, not-true, not-false}
+use borrow.Author.Tests.{eq-eqb, ne_eqb, lt-ltb, lt-leb, le-leb, not-true}
 use Rattle.model.specs.Basics.{implies, every, up_from, ◌else◌then◌}
 use Rattle.model.specs.Text.{number_from}
 use Rattle.model.specs.Frame.{byte_at, nothing_read, policy_kind, body_refusal}

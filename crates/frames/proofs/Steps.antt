@@ -1,14 +1,14 @@
 -- Laws of a command's steps: decoding, the form of a step, what it names, and the loops over all of them.
 -- Assumes nothing.
 use mathlib.Core.Path.{◌≡◌, refl, sym, ap, ◌∙◌}
-use mathlib.Core.Bool.{Bool, true, false, not, ◌&&◌}
+use mathlib.Core.Bool.{Bool, true, false, ◌&&◌}
 use mathlib.Core.List.{List, [], ◌∷◌, ◌++◌, map}
 use Prim.Native.Nat.{ℕ, zero, suc, ◌+◌, ◌*◌, ◌≤◌, ◌<◌}
 use native.Mathlib.Omega.{arith}
 use lib.Dec.{eqb, ltb}
 use lib.ListN.{length, get_or, take, drop, set, length-set, length-map, get_or-map, get_or-eq_default}
 use lib.Seq.{length-take-le, take_all}
-use borrow.Author.Tests.{eq-eqb, ne_eqb, lt-ltb, le-ltb, lt-leb, le-leb, not-true, not-false}
+use borrow.Author.Tests.{eq-eqb, ne_eqb, lt-ltb, le-ltb, lt-leb, le-leb}
 use Rattle.model.specs.Basics.{every}
 use Rattle.model.specs.Step.{ops, Unknown, fields_of}
 use Rattle.model.specs.Frame.{byte_at, steps_of, field_formed, field_names, step_formed, step_names, returns_last, names_made}

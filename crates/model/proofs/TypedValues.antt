@@ -7,7 +7,7 @@ use mathlib.Core.List.{List, [], ◌∷◌, ◌++◌}
 use native.Mathlib.Omega.{arith}
 use native.Mathlib.Decide.{ℕ_discrete}
 use lib.Dec.{T, eqb, eqb→eq, eqb_refl}
-use lib.ListN.{get_or, length, replicate}
+use lib.ListN.{length, replicate}
 use Rattle.model.specs.Basics.{All}
 use Rattle.model.specs.Types.{Ty, Un, None, typed, below}
 use Rattle.model.specs.Typing.{decrypt_ok, decrypt_type, type_at}

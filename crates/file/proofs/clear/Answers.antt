@@ -1,13 +1,10 @@
 -- `file::clear` meets its contract: what was passed is zero, and the rest is as it was.
 -- Assumes nothing.
-use mathlib.Core.Path.{◌≡◌, refl, ◌∙◌}
-use mathlib.Core.List.{◌++◌}
-use Prim.Native.Nat.{◌-◌, ◌≤◌}
+use mathlib.Core.Path.{refl, ◌∙◌}
 use native.Mathlib.Omega.{arith}
-use lib.ListN.{length, drop, length-set}
+use lib.ListN.{length-set}
 use borrow.Author.Fill.{fill_more}
 use borrow.Author.Rules.{rules}
-use Rattle.model.specs.Tables.{zeros}
 use Rattle.file.proofs.Clearing.{all_cleared}
 use Rattle.file.proofs.clear.Goals as goal
 

@@ -1,7 +1,6 @@
 -- `file::read_cleared` meets its contract: too long, a refusal whose tables are cleared again, or a file.
 -- Assumes nothing.
 use mathlib.Core.Path.{◌∙◌}
-use borrow.Author.Rules.{rules}
 use Rattle.file.proofs.Whole.{too_long, refusal_left, file_left}
 use Rattle.file.proofs.read_cleared.Goals as goal
 

@@ -1,12 +1,9 @@
 -- `file::read_frames` meets its contract: the loop keeps Progress, and each way out is the answer of the whole.
 -- Assumes nothing.
-use mathlib.Core.Path.{◌≡◌, refl, sym, ◌∙◌}
-use Prim.Native.Nat.{◌-◌}
-use borrow.Author.Rules.{rules}
-use lib.ListN.{length}
+use mathlib.Core.Path.{refl, sym, ◌∙◌}
 use lib.Seq.{length-take-le}
 use native.Mathlib.Omega.{arith}
-use Rattle.file.proofs.Progress.{Progress, start, front_some, scan_well, scan_broken, refusal_framed, file_framed, turn_refused, policy_taken, command_taken, line_taken, read_of_nothing}
+use Rattle.file.proofs.Progress.{start, front_some, scan_well, scan_broken, refusal_framed, file_framed, turn_refused, policy_taken, command_taken, line_taken, read_of_nothing}
 use Rattle.file.proofs.read_frames.Goals as goal
 
 pub loop-at-init : goal.loop-at-init

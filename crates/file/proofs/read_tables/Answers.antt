@@ -1,7 +1,6 @@
 -- `file::read_tables` meets its contract: all tables are cleared, and their lengths decide before the input is looked at.
 -- Assumes nothing.
 use mathlib.Core.Path.{sym, ◌∙◌}
-use borrow.Author.Rules.{rules}
 use Rattle.file.proofs.Whole.{cleared_ready, all_cleared_refused, whole_read}
 use Rattle.model.specs.Tables.{Tables}
 use Rattle.file.proofs.read_tables.Goals as goal

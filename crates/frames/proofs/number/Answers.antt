@@ -2,10 +2,8 @@
 -- Assumes nothing.
 use native.Mathlib.Omega.{arith}
 use borrow.Author.Rules.{rules}
-use Prim.Native.Nat.{◌-◌}
 use mathlib.Core.Path.{refl}
-use lib.ListN.{length}
-use Rattle.frames.proofs.Numbers.{Summing, sum_small, sum_turn, sum_done}
+use Rattle.frames.proofs.Numbers.{sum_small, sum_turn, sum_done}
 use Rattle.frames.proofs.number.Goals as goal
 
 pub loop-i-init : goal.loop-i-init

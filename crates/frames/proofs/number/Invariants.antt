@@ -1,11 +1,8 @@
 -- `frames::number` meets its contract. The loop's invariant: n is what the first i bytes say.
 -- Assumes nothing.
-use native.Mathlib.Omega.{arith}
-use borrow.Author.Rules.{rules}
 use Prim.Native.Nat.{◌-◌}
-use mathlib.Core.Path.{refl}
 use lib.ListN.{length}
-use Rattle.frames.proofs.Numbers.{Summing, sum_small, sum_turn, sum_done}
+use Rattle.frames.proofs.Numbers.{Summing}
 use Rattle.frames.proofs.number.Given as goal
 
 abbrev pub invariant-loop-i : goal.invariant-loop-i

@@ -1,7 +1,6 @@
 -- `printing::digit` meets its contract: its table is the digits of the model.
 -- Assumes nothing.
 use mathlib.Core.Path.{refl}
-use borrow.Author.Rules.{rules}
 use Rattle.printing.proofs.digit.Goals as goal
 
 pub returns : goal.returns

@@ -1,10 +1,8 @@
 -- `printing::put_frame` meets its contract. The loop's invariant is `Writing`; the measure is how many bytes of the frame are left.
 -- Assumes nothing.
-use Prim.Native.Nat.{◌-◌}
 use native.Mathlib.Omega.{arith}
-use lib.ListN.{length, length-set}
-use borrow.Author.Rules.{rules}
-use Rattle.printing.proofs.Laws.{Writing, writing_starts, writing_goes_on, writing_ends}
+use lib.ListN.{length-set}
+use Rattle.printing.proofs.Laws.{writing_starts, writing_goes_on, writing_ends}
 use Rattle.printing.proofs.put_frame.Goals as goal
 
 pub loop-i-init : goal.loop-i-init

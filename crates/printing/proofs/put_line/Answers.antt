@@ -1,7 +1,6 @@
 -- `printing::put_line` meets its contract: with what `high` and `low` ensure, the array's bytes are those of the frame.
 -- Assumes nothing.
 use mathlib.Core.Path.{refl}
-use borrow.Author.Rules.{rules}
 use Rattle.printing.proofs.Laws.{line_put}
 use Rattle.printing.proofs.put_line.Goals as goal
 

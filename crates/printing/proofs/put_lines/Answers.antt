@@ -1,10 +1,7 @@
 -- `printing::put_lines` meets its contract. The loop's invariant is `Putting`; the measure is how many lines are left.
 -- Assumes nothing.
-use Prim.Native.Nat.{◌-◌}
 use native.Mathlib.Omega.{arith}
-use lib.ListN.{length}
-use borrow.Author.Rules.{rules}
-use Rattle.printing.proofs.Laws.{Putting, putting_starts, putting_goes_on, putting_ends}
+use Rattle.printing.proofs.Laws.{putting_starts, putting_goes_on, putting_ends}
 use Rattle.printing.proofs.put_lines.Goals as goal
 
 pub loop-i-init : goal.loop-i-init

@@ -1,7 +1,6 @@
 -- `text::digit_value` meets its contract, range by range.
 -- Assumes nothing.
 use native.Mathlib.Omega.{arith}
-use borrow.Author.Rules.{rules}
 use Rattle.text.proofs.Laws.{none_below, digit_worth, none_between, letter_worth, none_above}
 use Rattle.text.proofs.digit_value.Goals as goal
 

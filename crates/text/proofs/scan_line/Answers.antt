@@ -1,11 +1,7 @@
 -- `text::scan_line` meets its contract. The loop keeps `Scanning`, and each exit is a law on it; each turn leaves less of the input.
 -- Assumes nothing.
-use Prim.Native.Nat.{◌-◌}
-use mathlib.Core.Logic.{⊎_elim}
 use native.Mathlib.Omega.{arith}
-use lib.ListN.{length}
-use borrow.Author.Rules.{rules}
-use Rattle.text.proofs.Laws.{Scanning, start, broken_at_end, broken_first, broken_alone, broken_second, broken_empty, done, stored, full}
+use Rattle.text.proofs.Laws.{start, broken_at_end, broken_first, broken_alone, broken_second, broken_empty, done, stored, full}
 use Rattle.text.proofs.scan_line.Goals as goal
 use Rattle.text.proofs.scan_line.Goals.{then-n-frame, else-n-frame}
 
@@ -31,7 +27,7 @@ pub loop-i-preserved : goal.loop-i-preserved
 loop-i-preserved c =
     let v = c.loop-i.invariant in
     elim c.if-n-frame.branch [
-      then-n-frame w ↦ stored v (omega arith) (omega arith) (omega arith) w.if-n-frame.true w.frame-is w.n-is (omega arith)
+      | then-n-frame w ↦ stored v (omega arith) (omega arith) (omega arith) w.if-n-frame.true w.frame-is w.n-is (omega arith)
       | else-n-frame w ↦ full v (omega arith) (omega arith) (omega arith) w.if-n-frame.false w.frame-is w.n-is
     ]
 

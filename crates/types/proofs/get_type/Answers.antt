@@ -1,12 +1,8 @@
 -- `types::get_type` meets its contract. The loop's invariant: `acc` is the code of the join over what the get may find from template m on.
 -- Assumes nothing.
 use mathlib.Core.Path.{◌≡◌}
-use Prim.Native.Nat.{◌≤◌}
-use borrow.Author.Rules.{rules}
 use native.Mathlib.Omega.{arith}
-use Rattle.model.specs.Types.{code_of}
-use Rattle.model.specs.Policy.{join_of}
-use Rattle.types.proofs.Walk.{offered_from, all_from_first, join_past_last, join_kept, join_grown}
+use Rattle.types.proofs.Walk.{all_from_first, join_past_last, join_kept, join_grown}
 use Rattle.types.proofs.get_type.Goals as goal
 
 pub loop-m-init : goal.loop-m-init

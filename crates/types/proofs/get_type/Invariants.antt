@@ -2,11 +2,9 @@
 -- Assumes nothing.
 use mathlib.Core.Path.{◌≡◌}
 use Prim.Native.Nat.{◌≤◌}
-use borrow.Author.Rules.{rules}
-use native.Mathlib.Omega.{arith}
 use Rattle.model.specs.Types.{code_of}
 use Rattle.model.specs.Policy.{join_of}
-use Rattle.types.proofs.Walk.{offered_from, all_from_first, join_past_last, join_kept, join_grown}
+use Rattle.types.proofs.Walk.{offered_from}
 use Rattle.types.proofs.get_type.Given as goal
 
 abbrev pub invariant-loop-m : goal.invariant-loop-m

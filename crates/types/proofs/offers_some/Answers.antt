@@ -1,10 +1,9 @@
 -- `types::offers_some` meets its contract. The loop's invariant: all that the get may find is found from template m on.
 -- Assumes nothing.
 use mathlib.Core.Path.{◌≡◌, ◌∙◌}
-use Prim.Native.Nat.{◌≤◌, ◌-◌, ◌+◌}
+use Prim.Native.Nat.{◌+◌}
 use native.Mathlib.Omega.{arith}
-use Rattle.model.specs.Policy.{offered}
-use Rattle.types.proofs.Walk.{offered_from, all_from_first, none_past_last, passed, some_found}
+use Rattle.types.proofs.Walk.{all_from_first, none_past_last, passed, some_found}
 use Rattle.types.proofs.offers_some.Goals as goal
 
 pub loop-m-init : goal.loop-m-init

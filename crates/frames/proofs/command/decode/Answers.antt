@@ -1,10 +1,9 @@
 -- `frames::command::decode` meets its contract. The loop's invariant: the steps so far, and zero behind them.
 -- Assumes nothing.
 use borrow.Author.Rules.{rules}
-use Prim.Native.Nat.{◌-◌}
 use mathlib.Core.Path.{refl}
 use Rattle.frames.specs.Parts.{filled}
-use Rattle.frames.proofs.Steps.{Decoding, decode_turn, decode_done}
+use Rattle.frames.proofs.Steps.{decode_turn, decode_done}
 use Rattle.frames.proofs.command.decode.Goals as goal
 
 pub loop-i-init : goal.loop-i-init

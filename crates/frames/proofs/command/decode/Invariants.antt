@@ -1,10 +1,7 @@
 -- `frames::command::decode` meets its contract. The loop's invariant: the steps so far, and zero behind them.
 -- Assumes nothing.
-use borrow.Author.Rules.{rules}
 use Prim.Native.Nat.{◌-◌}
-use mathlib.Core.Path.{refl}
-use Rattle.frames.specs.Parts.{filled}
-use Rattle.frames.proofs.Steps.{Decoding, decode_turn, decode_done}
+use Rattle.frames.proofs.Steps.{Decoding}
 use Rattle.frames.proofs.command.decode.Given as goal
 
 abbrev pub invariant-loop-i : goal.invariant-loop-i

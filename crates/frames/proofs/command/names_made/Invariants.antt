@@ -1,11 +1,9 @@
 -- `frames::command::names_made` meets its contract. The loop's invariant: the steps from i on decide, with i values more.
 -- Assumes nothing.
-use borrow.Author.Rules.{rules}
 use Prim.Native.Nat.{◌-◌, ◌≤◌}
-use native.Mathlib.Nat.{add-zero}
 use lib.ListN.{take}
 use Rattle.model.specs.Frame.{names_made}
-use Rattle.frames.proofs.Steps.{Asking, names_from, names_turn, names_fails, names_done, length_under}
+use Rattle.frames.proofs.Steps.{Asking, names_from}
 use Rattle.frames.proofs.command.names_made.Given as goal
 
 abbrev pub invariant-loop-i : goal.invariant-loop-i

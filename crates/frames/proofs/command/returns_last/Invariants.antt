@@ -1,11 +1,9 @@
 -- `frames::command::returns_last` meets its contract. The loop's invariant: the steps from i on decide.
 -- Assumes nothing.
-use borrow.Author.Rules.{rules}
 use Prim.Native.Nat.{◌-◌, ◌≤◌}
-use mathlib.Core.Path.{refl}
 use lib.ListN.{take}
 use Rattle.model.specs.Frame.{returns_last}
-use Rattle.frames.proofs.Steps.{Asking, returns_from, returns_turn, returns_early, returns_at_last, length_under}
+use Rattle.frames.proofs.Steps.{Asking, returns_from}
 use Rattle.frames.proofs.command.returns_last.Given as goal
 
 abbrev pub invariant-loop-i : goal.invariant-loop-i

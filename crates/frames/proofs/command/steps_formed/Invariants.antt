@@ -1,12 +1,10 @@
 -- `frames::command::steps_formed` meets its contract. The loop's invariant: the steps from i on decide whether each is formed.
 -- Assumes nothing.
-use borrow.Author.Rules.{rules}
 use Prim.Native.Nat.{◌-◌, ◌≤◌}
-use mathlib.Core.Path.{refl, ◌∙◌}
 use lib.ListN.{take}
 use Rattle.model.specs.Basics.{every}
 use Rattle.model.specs.Frame.{step_formed}
-use Rattle.frames.proofs.Steps.{Asking, formed_from, formed_turn, formed_fails, formed_done, length_under}
+use Rattle.frames.proofs.Steps.{Asking, formed_from}
 use Rattle.frames.proofs.command.steps_formed.Given as goal
 
 abbrev pub invariant-loop-i : goal.invariant-loop-i

@@ -1,9 +1,8 @@
 -- `frames::command::store_steps` meets its contract. The loop's invariant: the codes so far, over what was there.
 -- Assumes nothing.
 use borrow.Author.Rules.{rules}
-use Prim.Native.Nat.{◌-◌}
 use mathlib.Core.Path.{refl}
-use Rattle.frames.proofs.Steps.{Storing, store_turn, store_done, length_under}
+use Rattle.frames.proofs.Steps.{store_turn, store_done, length_under}
 use Rattle.frames.proofs.command.store_steps.Goals as goal
 
 pub loop-i-init : goal.loop-i-init

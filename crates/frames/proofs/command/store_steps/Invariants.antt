@@ -1,9 +1,7 @@
 -- `frames::command::store_steps` meets its contract. The loop's invariant: the codes so far, over what was there.
 -- Assumes nothing.
-use borrow.Author.Rules.{rules}
 use Prim.Native.Nat.{◌-◌}
-use mathlib.Core.Path.{refl}
-use Rattle.frames.proofs.Steps.{Storing, store_turn, store_done, length_under}
+use Rattle.frames.proofs.Steps.{Storing}
 use Rattle.frames.proofs.command.store_steps.Given as goal
 
 abbrev pub invariant-loop-i : goal.invariant-loop-i

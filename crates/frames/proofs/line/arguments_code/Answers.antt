@@ -2,8 +2,7 @@
 -- Assumes nothing.
 use native.Mathlib.Omega.{arith}
 use borrow.Author.Rules.{rules}
-use lib.ListN.{get_or}
-use Rattle.frames.proofs.Arguments.{Coding, coding_start, code_fits, coding_turn, coding_done}
+use Rattle.frames.proofs.Arguments.{coding_start, code_fits, coding_turn, coding_done}
 use Rattle.frames.proofs.line.arguments_code.Goals as goal
 
 pub loop-i-init : goal.loop-i-init

@@ -1,9 +1,7 @@
 -- `frames::line::arguments_code` meets its contract. The loop's invariant: the code so far is that of the arguments from i on.
 -- Assumes nothing.
-use native.Mathlib.Omega.{arith}
-use borrow.Author.Rules.{rules}
 use lib.ListN.{get_or}
-use Rattle.frames.proofs.Arguments.{Coding, coding_start, code_fits, coding_turn, coding_done}
+use Rattle.frames.proofs.Arguments.{Coding}
 use Rattle.frames.proofs.line.arguments_code.Given as goal
 
 abbrev pub invariant-loop-i : goal.invariant-loop-i

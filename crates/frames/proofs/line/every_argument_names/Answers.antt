@@ -1,9 +1,8 @@
 -- `frames::line::every_argument_names` meets its contract. The loop's invariant: the arguments from i on decide.
 -- Assumes nothing.
 use borrow.Author.Rules.{rules}
-use Prim.Native.Nat.{◌-◌}
 use mathlib.Core.Path.{refl}
-use Rattle.frames.proofs.Arguments.{Naming, naming_turn, naming_fails, naming_done}
+use Rattle.frames.proofs.Arguments.{naming_turn, naming_fails, naming_done}
 use Rattle.frames.proofs.line.every_argument_names.Goals as goal
 
 pub loop-i-init : goal.loop-i-init

@@ -1,9 +1,7 @@
 -- `frames::line::every_argument_names` meets its contract. The loop's invariant: the arguments from i on decide.
 -- Assumes nothing.
-use borrow.Author.Rules.{rules}
 use Prim.Native.Nat.{◌-◌}
-use mathlib.Core.Path.{refl}
-use Rattle.frames.proofs.Arguments.{Naming, naming_turn, naming_fails, naming_done}
+use Rattle.frames.proofs.Arguments.{Naming}
 use Rattle.frames.proofs.line.every_argument_names.Given as goal
 
 abbrev pub invariant-loop-i : goal.invariant-loop-i

@@ -1,6 +1,5 @@
 -- `frames::line::head_fits` meets its contract, by the kind.
 -- Assumes nothing.
-use Rattle.model.proofs.Tests.{past}
 use Rattle.frames.proofs.Lines.{fits_above}
 use native.Mathlib.Omega.{arith}
 use Rattle.frames.proofs.line.head_fits.Goals as goal

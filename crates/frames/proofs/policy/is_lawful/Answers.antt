@@ -1,10 +1,8 @@
 -- `frames::policy::is_lawful` meets its contract. The loop's invariant: the templates from m on decide.
 -- Assumes nothing.
 use borrow.Author.Rules.{rules}
-use Prim.Native.Nat.{◌-◌}
 use mathlib.Core.Path.{refl}
-use mathlib.Core.Logic.{⊎_elim}
-use Rattle.frames.proofs.Policies.{Judging, past_other, past_barred, unlawful, lawful_done}
+use Rattle.frames.proofs.Policies.{past_other, past_barred, unlawful, lawful_done}
 use Rattle.frames.proofs.policy.is_lawful.Goals as goal
 use Rattle.frames.proofs.policy.is_lawful.Goals.{then-m-eq2+else-set-m-eq1, else-m-eq2}
 
@@ -18,10 +16,9 @@ pub loop-m-preserved : goal.loop-m-preserved
 loop-m-preserved c =
     let v = c.loop-m.invariant in
     elim c.if-m-eq2.branch [
-      then-m-eq2+else-set-m-eq1 w ↦ past_barred v (search rules) w.if-set-m-eq1.false
+      | then-m-eq2+else-set-m-eq1 w ↦ past_barred v (search rules) w.if-set-m-eq1.false
       | else-m-eq2 w ↦ past_other v (search rules) w.if-m-eq2.false
     ]
-
 
 pub returns : goal.returns
 returns c = lawful_done c.loop-m.invariant c.loop-m-test.false

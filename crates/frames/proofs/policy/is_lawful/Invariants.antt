@@ -1,10 +1,7 @@
 -- `frames::policy::is_lawful` meets its contract. The loop's invariant: the templates from m on decide.
 -- Assumes nothing.
-use borrow.Author.Rules.{rules}
 use Prim.Native.Nat.{◌-◌}
-use mathlib.Core.Path.{refl}
-use mathlib.Core.Logic.{⊎_elim}
-use Rattle.frames.proofs.Policies.{Judging, past_other, past_barred, unlawful, lawful_done}
+use Rattle.frames.proofs.Policies.{Judging}
 use Rattle.frames.proofs.policy.is_lawful.Given as goal
 
 abbrev pub invariant-loop-m : goal.invariant-loop-m

@@ -1,6 +1,5 @@
 -- `frames::step::field_names` meets its contract, by what the field holds.
 -- Assumes nothing.
-use borrow.Author.Rules.{rules}
 use Rattle.frames.proofs.Steps.{value_named}
 use Rattle.frames.proofs.step.field_names.Goals as goal
 

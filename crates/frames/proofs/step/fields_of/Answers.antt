@@ -2,7 +2,6 @@
 -- Assumes nothing.
 use lib.ListN.{get_or-eq_default}
 use Rattle.model.specs.Step.{ops, Unknown}
-use Rattle.model.proofs.Tests.{past}
 use native.Mathlib.Omega.{arith}
 use Rattle.frames.proofs.step.fields_of.Goals as goal
 

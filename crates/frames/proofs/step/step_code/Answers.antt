@@ -1,7 +1,6 @@
 -- `frames::step::step_code` meets its contract: a sum of four bytes that cannot wrap.
 -- Assumes nothing.
 use native.Mathlib.Omega.{arith}
-use borrow.Author.Rules.{rules}
 use Rattle.model.specs.Tables.{step_code}
 use Rattle.frames.proofs.step.step_code.Goals as goal
 
