@@ -1,4 +1,3 @@
 -- The laws that the functions' proofs cite.
 pub mod Searching
 pub mod Unpacking
-pub mod Lending

@@ -91,6 +91,7 @@ fn lookup(recs: &[KeyRecord], i: usize) -> Found
 }
 
 // The stored key at place i: the records are made here, and lent for the lookup.
+#[tactic(auto, using(crate::proofs::Unpacking::record_at))]
 fn found_at(keys: &[u64], n: usize, i: usize) -> Found
     requires { (n ≤ length keys.now) × (length keys.now ≤ 256) × (i < n) }
     ensures { result ≡ key_of (record_of (get_or keys.now i 0)) }

@@ -66,6 +66,7 @@ fn code(row: Row) -> u64
 }
 
 // A kind that no row has is that of an unused place, as are the zeros after the rows.
+#[tactic(auto, unfolding(crate::specs::Coding::decode_row))]
 fn decode(x: u64) -> Read
     ensures { result ≡ decode_row x }
 {

@@ -1,9 +1,7 @@
 -- `keys::find_handle` meets its contract. The loop's invariant: what is sought is what will be found in what is left.
 -- Assumes nothing.
-use Prim.Native.Nat.{◌-◌, ◌≤◌}
 use native.Mathlib.Omega.{arith}
-use borrow.Author.Rules.{rules}
-use Rattle.keys.proofs.Searching.{Left, found_here, goes_on, none_left}
+use Rattle.keys.proofs.Searching.{found_here, goes_on, none_left}
 use Rattle.keys.proofs.find_handle.Goals as goal
 
 pub loop-i-init : goal.loop-i-init

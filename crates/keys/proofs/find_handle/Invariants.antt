@@ -1,9 +1,7 @@
 -- `keys::find_handle` meets its contract. The loop's invariant: what is sought is what will be found in what is left.
 -- Assumes nothing.
 use Prim.Native.Nat.{◌-◌, ◌≤◌}
-use native.Mathlib.Omega.{arith}
-use borrow.Author.Rules.{rules}
-use Rattle.keys.proofs.Searching.{Left, found_here, goes_on, none_left}
+use Rattle.keys.proofs.Searching.{Left}
 use Rattle.keys.proofs.find_handle.Given as goal
 
 abbrev pub invariant-loop-i : goal.invariant-loop-i

@@ -1,9 +1,7 @@
 -- `keys::records` meets its contract. The loop's invariant: the records of the first k numbers stand, and the others are empty.
 -- Assumes nothing.
-use Prim.Native.Nat.{◌-◌, ◌≤◌}
-use mathlib.Core.Path.{◌≡◌, ap, ◌∙◌}
+use mathlib.Core.Path.{ap, ◌∙◌}
 use native.Mathlib.Omega.{arith}
-use borrow.Author.Rules.{rules}
 use Rattle.keys.specs.Stored.{records_of}
 use Rattle.keys.proofs.Unpacking.{no_records, records_more}
 use Rattle.keys.proofs.records.Goals as goal

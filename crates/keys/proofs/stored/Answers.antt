@@ -1,6 +1,5 @@
 -- `keys::stored` meets its contract, where the handle is found and where it is not.
 -- Assumes nothing.
-use borrow.Author.Rules.{rules}
 use borrow.Author.Tests.{lt-ltb, le-ltb}
 use Rattle.keys.specs.Stored.{stored_of}
 use Rattle.keys.proofs.stored.Goals as goal

@@ -1,7 +1,6 @@
 -- `keys::unpacked` meets its contract, by computing; it has this file so that a wrong field is refused here, where it stands.
 -- Assumes nothing.
 use mathlib.Core.Path.{refl}
-use borrow.Author.Rules.{rules}
 use Rattle.keys.proofs.unpacked.Goals as goal
 
 pub returns : goal.returns

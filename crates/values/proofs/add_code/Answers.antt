@@ -1,9 +1,7 @@
 -- `values::add_code` meets its contract, with room for a row and without.
 -- Assumes nothing.
 use mathlib.Core.Path.{refl}
-use native.Mathlib.Omega.{arith}
 use borrow.Author.Tests.{lt-ltb, le-ltb}
-use borrow.Author.Rules.{rules}
 use Rattle.values.specs.Interning.{add_answer, add_table}
 use Rattle.values.proofs.add_code.Goals as goal
 

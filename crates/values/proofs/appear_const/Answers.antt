@@ -1,7 +1,6 @@
 -- `values::appear_const` meets its contract: a constant's number is looked for and added as the constant itself.
 -- Assumes nothing.
 use mathlib.Core.Path.{refl}
-use borrow.Author.Rules.{rules}
 use Rattle.model.specs.Value.{const}
 use Rattle.values.proofs.Steps.{intern_appears}
 use Rattle.values.proofs.appear_const.Goals as goal

@@ -1,6 +1,5 @@
 -- `values::appear_new` meets its contract: an atom that has no row is added, or there is no room for it.
 -- Assumes nothing.
-use borrow.Author.Rules.{rules}
 use Rattle.model.specs.Value.{fresh}
 use Rattle.values.proofs.Steps.{add_appears}
 use Rattle.values.proofs.appear_new.Goals as goal

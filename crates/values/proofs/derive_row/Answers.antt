@@ -1,7 +1,6 @@
 -- `values::derive_row` meets its contract: the number made of a label and a row is that of what is derived from its value.
 -- Assumes nothing.
 use native.Mathlib.Omega.{arith}
-use borrow.Author.Rules.{rules}
 use Rattle.values.proofs.Steps.{derive_appears}
 use Rattle.values.proofs.derive_row.Goals as goal
 

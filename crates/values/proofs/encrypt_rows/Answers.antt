@@ -1,7 +1,6 @@
 -- `values::encrypt_rows` meets its contract: the number made of two rows is that of the encryption of their values.
 -- Assumes nothing.
 use native.Mathlib.Omega.{arith}
-use borrow.Author.Rules.{rules}
 use Rattle.values.proofs.Steps.{encrypt_appears}
 use Rattle.values.proofs.encrypt_rows.Goals as goal
 

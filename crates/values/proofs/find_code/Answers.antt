@@ -1,11 +1,7 @@
 -- `values::find_code` meets its contract. The loop's invariant: x stands in none of the rows that were passed.
 -- Assumes nothing.
-use Prim.Native.Nat.{ℕ, ◌-◌, ◌≤◌, ◌<◌}
-use mathlib.Core.Path.{◌≡◌}
 use native.Mathlib.Omega.{arith}
 use borrow.Author.Count.{below_more}
-use borrow.Author.Rules.{rules}
-use lib.ListN.{get_or}
 use Rattle.values.proofs.Index.{search_finds, search_ends}
 use Rattle.values.proofs.find_code.Goals as goal
 

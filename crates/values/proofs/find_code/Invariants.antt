@@ -2,11 +2,7 @@
 -- Assumes nothing.
 use Prim.Native.Nat.{ℕ, ◌-◌, ◌≤◌, ◌<◌}
 use mathlib.Core.Path.{◌≡◌}
-use native.Mathlib.Omega.{arith}
-use borrow.Author.Count.{below_more}
-use borrow.Author.Rules.{rules}
 use lib.ListN.{get_or}
-use Rattle.values.proofs.Index.{search_finds, search_ends}
 use Rattle.values.proofs.find_code.Given as goal
 
 abbrev pub invariant-loop-i : goal.invariant-loop-i

@@ -1,12 +1,9 @@
 -- `values::forget` meets its contract. The loop's invariant: where there were zeros after the last entry, there are zeros after those that are left.
 -- Assumes nothing.
 use Prim.Native.Nat.{◌+◌, ◌-◌, ◌≤◌}
-use mathlib.Core.Path.{◌≡◌, refl}
-use native.Mathlib.Omega.{arith}
-use borrow.Author.Rules.{rules}
-use lib.ListN.{length, take, length-set}
+use mathlib.Core.Path.{◌≡◌}
+use lib.ListN.{length, take}
 use Rattle.model.specs.Tables.{padded}
-use Rattle.values.proofs.Padded.{zeros_from_one_before}
 use Rattle.values.proofs.forget.Given as goal
 
 abbrev pub invariant-loop-left : goal.invariant-loop-left
