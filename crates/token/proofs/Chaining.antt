@@ -1,11 +1,9 @@
 -- Steps one after the other: what one leaves for the next, and that one that gave no value ends what follows it.
 -- Assumes nothing.
 use Prim.Native.Nat.{ℕ, ◌≤◌}
-use mathlib.Core.Path.{◌≡◌, refl, ◌∙◌, subst}
-use mathlib.Core.List.{List, [], ◌∷◌}
+use mathlib.Core.Path.{◌≡◌, refl, ◌∙◌}
+use mathlib.Core.List.{List}
 use native.Mathlib.Omega.{arith}
-use types.Run.{OneOf, miss}
-use denote.Enum.Declared.{tag_of}
 use lib.ListN.{length, length-append}
 use Rattle.model.specs.Value.{Value, row_of}
 use Rattle.model.specs.Token.{State, Out, gave, ended, stopped, full, and_then}
@@ -15,7 +13,6 @@ use Rattle.token.specs.Carried.{counts_of, FewAtoms, Carries, Ready, Extends, ou
 use Rattle.token.specs.declared.Counts.{Counts}
 use Rattle.token.specs.declared.Outcome.{Outcome}
 use Rattle.token.specs.declared.Outcome.TheVariants.{Gave}
-use Rattle.token.specs.contracts.Outcome.{the_type as outcome-type}
 use Rattle.token.proofs.Undoing.{extends_trans}
 
 -- the numbers that the next step asks for
@@ -45,11 +42,11 @@ row_later {σ} {v = v} R E =
 
 -- an outcome without a value to go on with
 abbrev pub Stops : Outcome → Type 0
-Stops r = OneOf (1 ∷ 2 ∷ 3 ∷ []) (tag_of outcome-type r)
+Stops r = (c : Counts) (i : ℕ) → r ≡ Gave c i → ⊥
 
 pub stops : {σ : State} {o : Out} {r : Outcome} {t ks gs : List ℕ} (next : Value → State → Out) → Stops r → Performs σ o r t ks gs
     → Performs σ (and_then o next) r t ks gs
-stops {o = gave v σ'} next q P = absurd (miss (1 ∷ 2 ∷ 3 ∷ []) 0 tt (subst Stops P.answer q))
+stops {o = gave v σ'} next q P = absurd (q _ _ P.answer)
 stops {o = ended v σ'} next q P = P
 stops {o = stopped σ'} next q P = P
 stops {o = full n σ'} next q P = P

@@ -1,5 +1,5 @@
 -- When the lent tables and the counts carry a state of the model, and what a function that takes the state on answers and leaves there.
-use Rattle.std.specs.Prelude.{ℕ, ◌+◌, ◌≤◌, ◌<◌, ◌≡◌, true, false, List, ◌++◌, map, length, take, get_or}
+use Rattle.std.specs.Prelude.{ℕ, ◌≤◌, ◌<◌, ◌≡◌, true, false, List, ◌++◌, map, length, take, get_or}
 use Rattle.model.specs.Step.{Use, nothing, value, attributes, label, fields_of, op_of}
 use Rattle.model.specs.Value.{Value, fresh, row_of, present, value_at}
 use Rattle.model.specs.Token.{Key, State, Room, at_most, Out, gave, ended, stopped, full, key_at}
