@@ -4,8 +4,6 @@ use Prim.Native.Nat.{ℕ, ◌+◌, ◌*◌, ◌/◌, ◌%◌, ◌≤◌, ◌<◌
 use mathlib.Core.Path.{◌≡◌, refl, sym, ap, subst, ◌∙◌}
 use mathlib.Core.List.{List, [], ◌∷◌, ◌++◌}
 use native.Mathlib.Omega.{arith}
-use types.Run.{OneOf}
-use denote.Enum.Declared.{tag_of}
 use lib.Dec.{T, ltb→lt}
 use lib.ListN.{length, set, length-append, length-set}
 use Rattle.model.specs.Basics.{every}
@@ -21,10 +19,10 @@ use Rattle.token.specs.declared.Counts.{Counts}
 use Rattle.token.specs.declared.Outcome.{Outcome}
 use Rattle.token.specs.declared.Outcome.TheVariants.{Gave}
 use Rattle.line.specs.declared.Came.TheVariants.{All, Off}
-use Rattle.token.specs.contracts.Outcome.{the_type as outcome-type}
 use Rattle.token.proofs.Undoing.{extends_refl, extends_trans}
 use Rattle.line.proofs.States.{performs_from_earlier, goes_on_when_given, ends_when_not_given, values_go_on}
 use Rattle.line.proofs.OneArgument.{argument_ready, finishing_kept}
+use Rattle.token.proofs.Chaining.{Stops}
 
 -- ---- the next argument
 
@@ -144,7 +142,7 @@ module _ {before outcomes : List ℕ} {args count : ℕ} {entry : Counts} {rows 
           whole = λ then. reached.same then ∙ ap (λ l. with_arguments ρ fs l reached.vs reached.σ then) next.split;
         }
 
-    pub taking_ends : OneOf (1 ∷ 2 ∷ 3 ∷ []) (tag_of outcome-type o)
+    pub taking_ends : Stops o
         → TakesArguments entry args count before outcomes (record { came = Off o; values = values }) exit
     taking_ends other = record {
       twenty = L.twenty;

@@ -2,9 +2,7 @@
 -- Assumes nothing.
 use Prim.Native.Nat.{ℕ, ◌<◌}
 use mathlib.Core.Path.{◌≡◌, ap, ap₂}
-use mathlib.Core.List.{List, [], ◌∷◌}
-use types.Run.{OneOf}
-use denote.Enum.Declared.{tag_of}
+use mathlib.Core.List.{List}
 use Rattle.model.specs.Step.{Operation, Compute, op_of, Use, nothing, value, attributes, label, fields_of}
 use Rattle.model.specs.Value.{Value, compute, operands, value_at}
 use Rattle.model.specs.Token.{State, Out, ended, and_then, appear, perform}
@@ -14,9 +12,9 @@ use Rattle.line.specs.Stages.{Stands, computed}
 use Rattle.token.specs.declared.Counts.{Counts}
 use Rattle.token.specs.declared.Outcome.{Outcome}
 use Rattle.token.specs.declared.Outcome.TheVariants as code
-use Rattle.token.specs.contracts.Outcome.{the_type as outcome-type}
 use Rattle.token.proofs.Undoing.{extends_refl}
 use Rattle.line.proofs.States.{performs_from_earlier, goes_on_when_given, ends_when_not_given}
+use Rattle.token.proofs.Chaining.{Stops}
 
 -- a row that is there may be named by any field
 named_by_any : (u : Use) {x n : ℕ} → x < n → UsedBelow u x n
@@ -42,7 +40,7 @@ module _ (s : Step) (x y : ℕ) {c : Counts} {rows keys guards : List ℕ} (o : 
   performs : Performs σ result o exit_rows exit_keys exit_guards
   performs = rw is at (did σ S.carries S.few_atoms S.counts_are)
 
-  pub computing_ends : OneOf (1 ∷ 2 ∷ 3 ∷ []) (tag_of outcome-type o)
+  pub computing_ends : Stops o
       → Performs σ (computed (room_of rows keys) operation (value_at σ.world.rows x) (value_at σ.world.rows y) σ) o exit_rows exit_keys exit_guards
   computing_ends other = performs_from_earlier (extends_refl σ) (ends_when_not_given other result _ performs) performs
 

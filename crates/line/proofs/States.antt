@@ -6,8 +6,6 @@ use mathlib.Core.Bool.{true}
 use mathlib.Core.List.{List, [], ◌∷◌, ◌++◌}
 use native.Mathlib.Omega.{arith}
 use native.Mathlib.Decide.{dec_lt}
-use types.Run.{OneOf, miss}
-use denote.Enum.Declared.{tag_of}
 use lib.ListN.{length, get_or, set, length-append, get_or-append}
 use lib.Seq.{get_or_at, get_or-set_same, get_or-set_other}
 use Rattle.model.specs.Value.{Value, const, row_of, present, value_at}
@@ -18,9 +16,8 @@ use Rattle.line.specs.Stages.{Stands, Valued}
 use Rattle.token.specs.declared.Counts.{Counts}
 use Rattle.token.specs.declared.Outcome.{Outcome}
 use Rattle.token.specs.declared.Outcome.TheVariants as code
-use Rattle.token.specs.contracts.Outcome.{the_type as outcome-type}
 use Rattle.token.proofs.Undoing.{extends_refl, extends_trans}
-use Rattle.token.proofs.Chaining.{ready_again, went}
+use Rattle.token.proofs.Chaining.{Stops, ready_again, went}
 
 -- ---- what a state makes ready
 
@@ -82,10 +79,10 @@ goes_on_when_given e o P =
       extends = given.extends;
     }
 
-pub ends_when_not_given : {σ : State} {r : Outcome} {rows keys guards : List ℕ} → OneOf (1 ∷ 2 ∷ 3 ∷ []) (tag_of outcome-type r)
+pub ends_when_not_given : {σ : State} {r : Outcome} {rows keys guards : List ℕ} → Stops r
     → (o : Out) (next : Value → State → Out) → Performs σ o r rows keys guards → and_then o next ≡ o
 ends_when_not_given other (gave v σ') next P =
-    absurd (miss (1 ∷ 2 ∷ 3 ∷ []) 0 tt (subst (λ (x : Outcome). OneOf (1 ∷ 2 ∷ 3 ∷ []) (tag_of outcome-type x)) P.answer other))
+    absurd (other _ _ P.answer)
 ends_when_not_given other (ended v σ') next P = refl
 ends_when_not_given other (stopped σ') next P = refl
 ends_when_not_given other (full n σ') next P = refl

@@ -5,8 +5,6 @@ use mathlib.Core.Path.{◌≡◌, refl, sym, ap, ap₂, subst, ◌∙◌}
 use mathlib.Core.List.{List, [], ◌∷◌, ◌++◌}
 use native.Mathlib.Omega.{arith}
 use native.Mathlib.Numerals.{add-one}
-use types.Run.{OneOf}
-use denote.Enum.Declared.{tag_of}
 use lib.Dec.{T, ltb→lt}
 use lib.ListN.{length, get_or, set, length-append, length-set}
 use Rattle.model.specs.Step.{Op, Return, Get, Generate, Store, Compute, Unknown, Encrypt, Decrypt, Derive, op_of, Use, nothing, value, attributes, label, fields_of}
@@ -21,9 +19,9 @@ use Rattle.line.specs.Stages.{Valued, StepsGiven, StepsReady}
 use Rattle.token.specs.declared.Counts.{Counts}
 use Rattle.token.specs.declared.Outcome.{Outcome}
 use Rattle.token.specs.declared.Outcome.TheVariants as code
-use Rattle.token.specs.contracts.Outcome.{the_type as outcome-type}
 use Rattle.token.proofs.Undoing.{extends_refl, extends_trans}
 use Rattle.line.proofs.States.{ready_where_it_stands, rows_counted, performs_from_earlier, stop_performs, goes_on_when_given, ends_when_not_given, values_go_on}
+use Rattle.token.proofs.Chaining.{Stops}
 
 -- ---- a step uses only the values that its op names
 
@@ -191,7 +189,7 @@ module _ {rows₀ keys₀ guards₀ part : List ℕ} {count params : ℕ} {value
             whole = reached.same ∙ ap (λ l. run_steps ρ l reached.vs σ) next.split;
           }
 
-      pub running_ends : OneOf (1 ∷ 2 ∷ 3 ∷ []) (tag_of outcome-type o)
+      pub running_ends : Stops o
           → (σ₀ : State) (ss₀ : List Step) (vs₀ : List Value) → StepsGiven σ₀ ss₀ vs₀ entry rows₀ keys₀ guards₀ part 0 count params values₀
           → Performs σ₀ (run_steps (room_of rows₀ keys₀) ss₀ vs₀ σ₀) o exit_rows exit_keys exit_guards
       running_ends other σ₀ ss₀ vs₀ G =

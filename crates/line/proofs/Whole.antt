@@ -163,7 +163,7 @@ module _ (cs : List Command) (n head : ℕ) (few_commands : length cs ≤ 32) wh
 module _ {σ : State} {cs : List Command} {fs : List Finished} {l : Line} {c : Counts} {rows keys guards outcomes commands steps : List ℕ} {head args : ℕ}
     (G : LineGiven σ cs fs l c rows keys guards outcomes commands steps head args) where
   read_line : Read cs (length fs) l
-  read_line = read_in_parts cs (length fs) l G.Line-read
+  read_line = read_in_parts cs (length fs) l G.line_is_read
 
   line_count : head / 65536 ≡ length (args_of_line l)
   line_count = count_told cs (length fs) head G.few_commands l read_line G.head_is
