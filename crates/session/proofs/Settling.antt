@@ -91,6 +91,17 @@ pub undone_settled : (σ : State) (out : Out) (o : Outcome) (rows keys guards : 
 undone_settled σ (gave v σ') (code.Gave c x) rows keys guards earlier (as_gave e) s a h = record { answer = a ∙ ap (λ d. done.Line d 65535) s; carries = h }
 undone_settled σ (stopped σ') (code.Stopped c) rows keys guards earlier (as_stopped e) s a h = record { answer = a ∙ ap (λ d. done.Line d 65535) s; carries = h }
 undone_settled σ (full n σ') (code.Full k c) rows keys guards earlier (as_full e f) s a h = record { answer = a ∙ ap done.Over (sym f); carries = h }
+-- no other outcome of the code goes with the model's
+undone_settled σ (gave v σ') (code.Ended c x) rows keys guards earlier none s a h = elim none [ ]
+undone_settled σ (gave v σ') (code.Stopped c) rows keys guards earlier none s a h = elim none [ ]
+undone_settled σ (gave v σ') (code.Full k c) rows keys guards earlier none s a h = elim none [ ]
+undone_settled σ (ended v σ') o rows keys guards earlier none s a h = elim none [ ]
+undone_settled σ (stopped σ') (code.Gave c x) rows keys guards earlier none s a h = elim none [ ]
+undone_settled σ (stopped σ') (code.Ended c x) rows keys guards earlier none s a h = elim none [ ]
+undone_settled σ (stopped σ') (code.Full k c) rows keys guards earlier none s a h = elim none [ ]
+undone_settled σ (full n σ') (code.Gave c x) rows keys guards earlier none s a h = elim none [ ]
+undone_settled σ (full n σ') (code.Ended c x) rows keys guards earlier none s a h = elim none [ ]
+undone_settled σ (full n σ') (code.Stopped c) rows keys guards earlier none s a h = elim none [ ]
 
 pub ended_settled : (σ : State) (out : Out) (rows keys guards : List ℕ) (later : Counts) (row : ℕ)
     → code.Ended later row ≡ outcome_of out → Carries (state_of out) rows keys guards → SettledIs σ out (done.Line later row) rows keys guards
