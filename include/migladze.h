@@ -1,4 +1,4 @@
-/* Migladze for C: link target/staticlib/libexport.a, which `rt staticlib export` builds.
+/* Migladze for C: link target/staticlib/libexport.a, which `tools/build` builds.
  *
  * Migladze judges a configuration of a hardware key token (PKCS#11): a policy of allowed key templates, the commands that the token
  * offers, and a session. Four functions answer for it. Each reads the input itself, and promises its answer and the contents of every

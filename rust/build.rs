@@ -1,4 +1,4 @@
-//! Links the proved library, which `rt staticlib export` builds.
+//! Links the proved library, which `tools/build` builds.
 
 use std::path::Path;
 
@@ -8,7 +8,7 @@ fn main() {
     let archive = format!("{folder}/libexport.a");
     println!("cargo:rerun-if-changed={archive}");
     if !Path::new(&archive).exists() {
-        panic!("{archive} is not there: `rt staticlib export` builds it");
+        panic!("{archive} is not there: `tools/build` builds it");
     }
     println!("cargo:rustc-link-search=native={folder}");
     println!("cargo:rustc-link-lib=static=export");

@@ -1,4 +1,4 @@
-//! Links the proved library, which `rt staticlib export` builds.
+//! Links the proved library, which `tools/build` builds.
 
 fn main() {
     let root = std::env::var("CARGO_MANIFEST_DIR").expect("cargo sets it");
