@@ -1,4 +1,5 @@
 -- What is written for the bytes that were read is the report of the whole input: of a longer one the first 32,769 bytes say that it is too long.
+-- Assumes nothing.
 use Rattle.std.proofs.Common.{ℕ, ◌≤◌, ◌<◌, ◌≡◌, ◌∙◌, sym, ap, subst, refl, true, List, [], ◌++◌, length, take, append-nil, None, Some, IfSome, OnOk, Result, Ok, Err, arith}
 use Rattle.std.proofs.lemmas.Bool.{lt-leb}
 use Rattle.std.proofs.lemmas.List.{length-append, length-replicate, take_at}

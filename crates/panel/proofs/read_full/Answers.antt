@@ -1,3 +1,5 @@
+-- `panel::read_full` meets its contract: what each read gives stands after what was read before.
+-- Assumes nothing.
 use Rattle.std.proofs.Common.{◌≡◌, ◌+◌, ◌-◌, ◌≤◌, List, ℕ, ◌++◌, length, take, rules, subst, sym, ap, ◌∙◌, length-take-le}
 use Rattle.std.proofs.lemmas.List.{take-append-le}
 use Rattle.std.proofs.KnownBytes.{Consumes-trans}

@@ -1,8 +1,9 @@
+-- `panel::read_full` meets its contract. The loop's invariant: what the buffer begins with has been read, and nothing else.
+-- Assumes nothing.
 use Rattle.std.proofs.Common.{length, ◌-◌, ◌≤◌, take}
 use Rattle.std.specs.Io.KnownBytes.{Consumes}
 use Rattle.panel.proofs.read_full.Given as goal
 
--- what the buffer begins with has been read, and no more
 abbrev pub invariant-loop-done : goal.invariant-loop-done
 invariant-loop-done g l = record {
   in_range : l.done ≤ length l.buffer;

@@ -1,3 +1,5 @@
+-- `panel::write_report` meets its contract: what was read says the whole input's report, and that stands at the front of its buffer.
+-- Assumes nothing.
 use Rattle.std.proofs.Common.{ℕ, arith, refl, sym, length-take-le}
 use Rattle.std.proofs.lemmas.List.{length-replicate}
 use Rattle.panel.proofs.Whole.{report_of_all, count_within, report_in_front}
