@@ -49,6 +49,7 @@ fn outcome_number(row: usize, keys: usize, breached: bool) -> u64
 }
 
 // The first breached line, once line i has its mark; 65535 is none.
+#[tactic(auto, unfolding(crate::specs::Sessioned::earliest_of))]
 fn earliest(first: usize, i: usize, breached: bool) -> usize
     ensures { result ≡ earliest_of first i breached }
 {
