@@ -344,19 +344,19 @@ module _ {input heads arguments commands steps : List ℕ} {at frame place trans
 
   pub line_taken : t ≡ turn.Line → Progress input heads' arguments' commands' steps' next (frame + 1) 2 transported allowing n (m + 1)
   line_taken e =
-      let told_Line = line_turn (frame_refusal p.reading f) (kind_of f) f (sym e ∙ turned.answer) in
-      let none = told_Line.0 in
-      let counted_after = read_after_line p.counted f none told_Line.1 in
+      let told_line = line_turn (frame_refusal p.reading f) (kind_of f) f (sym e ∙ turned.answer) in
+      let none = told_line.0 in
+      let counted_after = read_after_line p.counted f none told_line.1 in
       let farther = longer none in
       let is_in_place = (met (in_place p.reading.place (kind_of f)) 2 (body_refusal p.reading.file (kind_of f) f) none).0 in
-      let past_policy = leb→le 1 p.reading.place (subst (λ (k : Kind). T (in_place p.reading.place k)) told_Line.1 is_in_place) in
+      let past_policy = leb→le 1 p.reading.place (subst (λ (k : Kind). T (in_place p.reading.place k)) told_line.1 is_in_place) in
       let place_is = p.counted.place_is in
       record {
         reading = after_frame p.reading f;
         counted = counted_after.0;
         held = held_after none;
         lengths = kept;
-        policy_kept = λ past. kept_after line_kind told_Line.1 (λ q. let z : ◌≡◌ {A = ℕ} 0 1 = cc in omega arith) (p.policy_kept (λ z. omega arith));
+        policy_kept = λ past. kept_after line_kind told_line.1 (λ q. let z : ◌≡◌ {A = ℕ} 0 1 = cc in omega arith) (p.policy_kept (λ z. omega arith));
         few_frames = omega (arith, p.few_frames);
         few_commands = p.few_commands;
         few_lines = omega (arith, counted_after.1);

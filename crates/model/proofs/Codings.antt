@@ -199,7 +199,7 @@ line_once : (l m : Line) → SmallLine l → SmallLine m → head_code l ≡ hea
 unfolding head_code
 line_once (calls c xs) (calls d ys) h k e f =
     let same_head = byte_once c d (length xs) (length ys) h.0 k.0 (omega arith) in
-    let same_Args = args_once xs ys h.1 k.1 same_head.1 f in
+    let same_arguments = args_once xs ys h.1 k.1 same_head.1 f in
     cc
 line_once (calls c xs) (computes Encrypt ys) h k e f = absurd (omega arith)
 line_once (calls c xs) (computes Decrypt ys) h k e f = absurd (omega arith)
@@ -217,7 +217,7 @@ line_once (computes (Derive l) xs) (computes Encrypt ys) h k e f = absurd (omega
 line_once (computes (Derive l) xs) (computes Decrypt ys) h k e f = absurd (omega arith)
 line_once (computes (Derive l) xs) (computes (Derive m) ys) h k e f =
     let same_head = byte_once l m (length xs) (length ys) h.0 k.0 (omega arith) in
-    let same_Args = args_once xs ys h.1 k.1 same_head.1 f in
+    let same_arguments = args_once xs ys h.1 k.1 same_head.1 f in
     cc
 
 -- ---- whole files

@@ -143,11 +143,11 @@ line_is_read f cs n bytes formed named =
     let exact = eqb→eq (length f) (4 + 2 * byte_at f 3) (and_right (kind && few) long sized) in
     let four = leb→le (byte_at f 3) 4 (and_right kind few (and_left (kind && few) long sized)) in
     let counted : length args ≡ byte_at f 3 = args_of_pairs (byte_at f 3) (drop 4 f) (omega (arith, length-drop 4 f)) in
-    let same_Args = args_of_the_line (byte_at f 1) (byte_at f 2) args in
+    let same_arguments = args_of_the_line (byte_at f 1) (byte_at f 2) args in
     let small_args : Bool = leb (length (args_of_line (line_of f))) 4 && every arg_read (args_of_line (line_of f)) in
     and_both (small_args && line_names cs n (line_of f)) (has_operands (line_of f))
     (and_both small_args (line_names cs n (line_of f))
-    (subst (λ (as' : List Arg). T (leb (length as') 4 && every arg_read as')) (sym same_Args)
+    (subst (λ (as' : List Arg). T (leb (length as') 4 && every arg_read as')) (sym same_arguments)
     (and_both (leb (length args) 4) (every arg_read args) (le→leb (length args) 4 (omega arith)) (args_read (drop 4 f) (every_drop small 4 f bytes))))
     named)
     (operands_are_read (byte_at f 1) (byte_at f 2) (byte_at f 3) args counted (and_right (kind && few && long) fits formed))
