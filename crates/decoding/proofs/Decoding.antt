@@ -10,7 +10,12 @@ use lib.Dec.{T, ltb, leb, ltb→lt, leb→le, eqb→eq}
 use lib.ListN.{get_or, length, take, drop, length-append, length-replicate, length-map, get_or-append, get_or-map}
 use lib.Seq.{take-append_seam, take_at, drop_at, drop-drop, get_or-take, get_or-drop}
 use Rattle.model.specs.Basics.{every, up_from}
-use Rattle.model.specs.Step.{Op, Return, Get, Generate, Store, Compute, Unknown, Encrypt, Decrypt, Derive, Use, nothing, value, attributes, label, fields_of, ops, op_of, Command}
+use Rattle.model.specs.Step.{fields_of, ops, op_of, Command}
+use Rattle.model.specs.declared.Operation.TheVariants.{Encrypt, Decrypt, Derive}
+use Rattle.model.specs.declared.Op.{Op}
+use Rattle.model.specs.declared.Op.TheVariants.{Return, Get, Generate, Store, Compute, Unknown}
+use Rattle.model.specs.declared.Use.{Use}
+use Rattle.model.specs.declared.Use.TheVariants.{Nothing, Operand, Attributes, Label}
 use Rattle.model.specs.Token.{command_at}
 use Rattle.model.specs.Frame.{field_formed, step_formed, returns_last, field_names, step_names, names_made}
 use Rattle.model.specs.Tables.{zeros, padded, step_code, command_code, step_codes, command_read}
@@ -50,10 +55,10 @@ module _ (s : Step) (small : Small s) where
 -- The steps that reading takes are small: a field is 0 where its op does not use it, names one of at most twenty values, or is a set of attributes or a label.
 
 used_small : (u : Use) (n x : ℕ) → n ≤ 20 → T (field_formed u x) → T (field_names n u x) → x < 64
-used_small nothing n x few formed named = let none = eqb→eq x 0 formed in omega arith
-used_small value n x few formed named = let made = ltb→lt x n named in omega arith
-used_small attributes n x few formed named = ltb→lt x 64 formed
-used_small label n x few formed named = let low = ltb→lt x 2 formed in omega arith
+used_small Nothing n x few formed named = let none = eqb→eq x 0 formed in omega arith
+used_small Operand n x few formed named = let made = ltb→lt x n named in omega arith
+used_small Attributes n x few formed named = ltb→lt x 64 formed
+used_small Label n x few formed named = let low = ltb→lt x 2 formed in omega arith
 
 -- no op names a value by its last field
 last_small : (o : Op) (x : ℕ) → T (field_formed (fields_of o).t x) → x < 64

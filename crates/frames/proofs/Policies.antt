@@ -13,7 +13,8 @@ use borrow.Author.Tests.{eq-eqb, ne_eqb, lt-ltb, lt-leb, le-leb, not-true}
 use Rattle.model.specs.Basics.{implies, every, up_from, ◌else◌then◌}
 use Rattle.model.specs.Text.{number_from}
 use Rattle.model.specs.Frame.{byte_at, nothing_read, policy_kind, body_refusal}
-use Rattle.model.specs.Types.{Un, typed, type_of}
+use Rattle.model.specs.Types.{typed, type_of}
+use Rattle.model.specs.declared.Ty.TheVariants.{Un}
 use Rattle.model.specs.Policy.{allows, lawful}
 use Rattle.model.proofs.Tests.{and_left, and_right}
 use Rattle.frames.specs.Turn.{turn_of}

@@ -10,7 +10,8 @@ use lib.ListN.{length, get_or, take, drop, set, length-set, length-map, get_or-m
 use lib.Seq.{length-take-le, take_all}
 use borrow.Author.Tests.{eq-eqb, ne_eqb, lt-ltb, le-ltb, lt-leb, le-leb}
 use Rattle.model.specs.Basics.{every}
-use Rattle.model.specs.Step.{ops, Unknown, fields_of}
+use Rattle.model.specs.Step.{ops, fields_of}
+use Rattle.model.specs.declared.Op.TheVariants.{Unknown}
 use Rattle.model.specs.Frame.{byte_at, steps_of, field_formed, field_names, step_formed, step_names, returns_last, names_made}
 use Rattle.model.specs.Tables.{step_code}
 use Rattle.model.specs.declared.Step.{Step}

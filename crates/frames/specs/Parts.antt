@@ -1,7 +1,9 @@
 -- What the inner functions promise: numbers, decoded steps, and a frame of which the place is known.
 use Rattle.std.specs.Prelude.{ℕ, ◌+◌, ◌-◌, ◌*◌, ◌%◌, ◌<◌, ◌^◌, ◌≡◌, Bool, true, cond, ◌&&◌, List, [], ◌∷◌, ◌++◌, map, leb, ltb, eqb, length, take, drop, get_or, set, replicate}
 use Rattle.model.specs.Basics.{every}
-use Rattle.model.specs.Step as model
+use Rattle.model.specs.declared.Use.{Use as ModelUse}
+use Rattle.model.specs.declared.Use.TheVariants as model
+use Rattle.model.specs.declared.Fields.{Fields as ModelFields}
 use Rattle.model.specs.Text.{number_from}
 use Rattle.model.specs.Frame.{Reading, byte_at, steps_of, args_of, arg_names}
 use Rattle.model.specs.Tables.{Held, step_code, args_code}
@@ -35,13 +37,13 @@ pub record DecodedAs (part : List ℕ) (params count : ℕ) (r : Command) : Type
   pub steps_are : r.steps ≡ filled 16 no_step (steps_of part)
 
 -- the model's words for the uses of a step's fields
-abbrev pub meant : Use → model.Use
-meant Nothing = model.nothing
-meant Value = model.value
-meant Attributes = model.attributes
-meant Label = model.label
+abbrev pub meant : Use → ModelUse
+meant Nothing = model.Nothing
+meant Value = model.Operand
+meant Attributes = model.Attributes
+meant Label = model.Label
 
-abbrev pub fields_meant : Fields → model.Fields
+abbrev pub fields_meant : Fields → ModelFields
 fields_meant u = record { a = meant u.0; b = meant u.1; t = meant u.2 }
 
 -- a command's first bytes and its length

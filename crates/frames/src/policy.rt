@@ -1,6 +1,6 @@
 // The policy frame: the transported type and the set of allowed templates.
 ghost use Rattle.std.specs.Prelude.{◌≡◌, List, ℕ, ◌%◌, ◌<◌};
-ghost use Rattle.model.specs.Types.{Un};
+ghost use Rattle.model.specs.declared.Ty.TheVariants.{Un};
 ghost use Rattle.model.specs.Policy.{lawful};
 ghost use Rattle.model.specs.Frame.{byte_at};
 ghost use Rattle.frames.specs.Parts.{Takes};

@@ -1,6 +1,7 @@
 // One step of a command: what its fields hold, whether they are well formed and name values that are there, and its number in the table.
 ghost use Rattle.std.specs.Prelude.{◌≡◌, ℕ, ◌+◌, ◌*◌, ◌≤◌, ◌<◌, length, get_or};
-ghost use Rattle.model.specs.Step.{ops, Unknown, fields_of};
+ghost use Rattle.model.specs.Step.{ops, fields_of};
+ghost use Rattle.model.specs.declared.Op.TheVariants.{Unknown};
 ghost use Rattle.model.specs.Frame.{field_formed, field_names, step_formed, step_names};
 ghost use Rattle.model.specs.Tables.{step_code};
 ghost use Rattle.frames.specs.Parts.{step_at, meant, fields_meant};

@@ -3,7 +3,11 @@
 use Prim.Native.Nat.{ℕ, ◌<◌}
 use mathlib.Core.Path.{◌≡◌, ap, ap₂}
 use mathlib.Core.List.{List}
-use Rattle.model.specs.Step.{Operation, Compute, op_of, Use, nothing, value, attributes, label, fields_of}
+use Rattle.model.specs.Step.{op_of, fields_of}
+use Rattle.model.specs.declared.Operation.{Operation}
+use Rattle.model.specs.declared.Op.TheVariants.{Compute}
+use Rattle.model.specs.declared.Use.{Use}
+use Rattle.model.specs.declared.Use.TheVariants.{Nothing, Operand, Attributes, Label}
 use Rattle.model.specs.Value.{Value, compute, operands, value_at}
 use Rattle.model.specs.Token.{State, Out, ended, and_then, appear, perform}
 use Rattle.model.specs.declared.Step.{Step}
@@ -18,10 +22,10 @@ use Rattle.token.proofs.Chaining.{Stops}
 
 -- a row that is there may be named by any field
 named_by_any : (u : Use) {x n : ℕ} → x < n → UsedBelow u x n
-named_by_any nothing h = tt
-named_by_any value h = h
-named_by_any attributes h = tt
-named_by_any label h = tt
+named_by_any Nothing h = tt
+named_by_any Operand h = h
+named_by_any Attributes h = tt
+named_by_any Label h = tt
 
 pub own_step_is_named : (s : Step) → s.t < 256 → {x y n : ℕ} → x < n → y < n → Named s x y n
 own_step_is_named s small x_below y-below = record {

@@ -7,7 +7,12 @@ use native.Mathlib.Omega.{arith}
 use native.Mathlib.Numerals.{add-one}
 use lib.Dec.{T, ltb→lt}
 use lib.ListN.{length, get_or, set, length-append, length-set}
-use Rattle.model.specs.Step.{Op, Return, Get, Generate, Store, Compute, Unknown, Encrypt, Decrypt, Derive, op_of, Use, nothing, value, attributes, label, fields_of}
+use Rattle.model.specs.Step.{op_of, fields_of}
+use Rattle.model.specs.declared.Operation.TheVariants.{Encrypt, Decrypt, Derive}
+use Rattle.model.specs.declared.Op.{Op}
+use Rattle.model.specs.declared.Op.TheVariants.{Return, Get, Generate, Store, Compute, Unknown}
+use Rattle.model.specs.declared.Use.{Use}
+use Rattle.model.specs.declared.Use.TheVariants.{Nothing, Operand, Attributes, Label}
 use Rattle.model.specs.Value.{Value, value_at, compute, operands}
 use Rattle.model.specs.Token.{State, Room, at_most, Out, ended, and_then, appear, get, store, perform, run_steps}
 use Rattle.model.specs.Frame.{field_names, step_names, names_made}
@@ -26,10 +31,10 @@ use Rattle.token.proofs.Chaining.{Stops}
 -- ---- a step uses only the values that its op names
 
 abbrev SameWhereUsed : Use → Value → Value → Type 0
-SameWhereUsed nothing v w = Unit {0}
-SameWhereUsed value v w = v ≡ w
-SameWhereUsed attributes v w = Unit {0}
-SameWhereUsed label v w = Unit {0}
+SameWhereUsed Nothing v w = Unit {0}
+SameWhereUsed Operand v w = v ≡ w
+SameWhereUsed Attributes v w = Unit {0}
+SameWhereUsed Label v w = Unit {0}
 
 performs_by_what_it_uses : (ρ : Room) (o : Op) (s : Step) (v v' w w' : Value) (σ : State) → SameWhereUsed (fields_of o).a v v'
     → SameWhereUsed (fields_of o).b w w' → perform ρ o s v w σ ≡ perform ρ o s v' w' σ
@@ -44,16 +49,16 @@ performs_by_what_it_uses ρ Unknown s v v' w w' σ e f = refl
 
 module _ {rows vs : List Value} {values : List ℕ} (H : Valued rows vs values) (x : ℕ) where
   used_has_row : (u : Use) → T (field_names (length vs) u x) → {n : ℕ} → n ≡ length rows → UsedBelow u (get_or values x 0) n
-  used_has_row nothing named count = tt
-  used_has_row value named count = omega (arith, H.has_row x (ltb→lt x (length vs) named))
-  used_has_row attributes named count = tt
-  used_has_row label named count = tt
+  used_has_row Nothing named count = tt
+  used_has_row Operand named count = omega (arith, H.has_row x (ltb→lt x (length vs) named))
+  used_has_row Attributes named count = tt
+  used_has_row Label named count = tt
 
   used_is_same : (u : Use) → T (field_names (length vs) u x) → SameWhereUsed u (value_at rows (get_or values x 0)) (value_at vs x)
-  used_is_same nothing named = tt
-  used_is_same value named = H.is x (ltb→lt x (length vs) named)
-  used_is_same attributes named = tt
-  used_is_same label named = tt
+  used_is_same Nothing named = tt
+  used_is_same Operand named = H.is x (ltb→lt x (length vs) named)
+  used_is_same Attributes named = tt
+  used_is_same Label named = tt
 
 -- ---- the next step
 

@@ -10,7 +10,10 @@ use lib.Dec.{T, eqb, ltb, leb, eqb→eq, ltb→lt, leb→le}
 use lib.ListN.{length, get_or, take, drop, length-take, length-drop, length-map, get_or-map}
 use lib.Seq.{get_or-take}
 use Rattle.model.specs.Basics.{every}
-use Rattle.model.specs.Step.{Operation, Encrypt, Decrypt, Derive, Compute, Unknown, ops, op_of, Command}
+use Rattle.model.specs.Step.{ops, op_of, Command}
+use Rattle.model.specs.declared.Operation.{Operation}
+use Rattle.model.specs.declared.Operation.TheVariants.{Encrypt, Decrypt, Derive}
+use Rattle.model.specs.declared.Op.TheVariants.{Compute, Unknown}
 use Rattle.model.specs.Value.{Value, compute, value_at}
 use Rattle.model.specs.Token.{State, Room, at_most, Out, ended, and_then, appear, command_at, call, run_steps}
 use Rattle.model.specs.Session.{Arg, Line, calls, computes, Finished, with_arguments, run_line}

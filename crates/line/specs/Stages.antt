@@ -3,7 +3,8 @@
 -- numbers tells the code where it stands; what is ready holds one such state, which makes the numbers safe.
 use Rattle.std.specs.Prelude.{ℕ, ◌+◌, ◌/◌, ◌%◌, ◌≤◌, ◌<◌, ◌≡◌, cond, List, [], T, eqb, length, get_or}
 use Rattle.model.specs.Basics.{every}
-use Rattle.model.specs.Step.{Operation, Encrypt, Decrypt, Derive}
+use Rattle.model.specs.declared.Operation.{Operation}
+use Rattle.model.specs.declared.Operation.TheVariants.{Encrypt, Decrypt, Derive}
 use Rattle.model.specs.Value.{Value, compute, operands, value_at}
 use Rattle.model.specs.Token.{State, Room, Out, ended, and_then, appear}
 use Rattle.model.specs.Session.{Arg, Finished, with_arguments}

@@ -3,7 +3,9 @@
 #![tactic(auto)]
 
 ghost use Rattle.std.specs.Prelude.{◌≡◌, List, ℕ, ◌<◌, get_or};
-ghost use Rattle.model.specs.Step.{Operation, Compute, op_of, Command};
+ghost use Rattle.model.specs.Step.{op_of, Command};
+ghost use Rattle.model.specs.declared.Operation.{Operation};
+ghost use Rattle.model.specs.declared.Op.TheVariants.{Compute};
 ghost use Rattle.model.specs.Value.{Value, value_at};
 ghost use Rattle.model.specs.Token.{State, run_steps};
 ghost use Rattle.model.specs.Session.{Arg, Line, Finished, appearing, run_line};

@@ -6,9 +6,9 @@ use mathlib.Core.List.{List, [], ◌∷◌}
 use mathlib.Core.Logic.{◌↔◌}
 use native.Mathlib.Omega.{arith}
 use lib.ListN.{replicate}
-use Rattle.model.specs.Types.{Un}
+use Rattle.model.specs.declared.Ty.TheVariants.{Un}
 use Rattle.model.specs.Step.{Command}
-use Rattle.model.specs.Policy.{Policy}
+use Rattle.model.specs.declared.Policy.{Policy}
 use Rattle.model.specs.Typing.{step_findings, findings, accepted, or_later, first_refusal, verdict}
 use Rattle.model.specs.declared.Verdict.{Verdict}
 use Rattle.model.specs.Basics.{All}

@@ -8,7 +8,10 @@ use lib.Dec.{T, ltb, leb, eqb→eq, ltb→lt, leb→le}
 use lib.ListN.{length, length-append, length-map, length-replicate}
 use Rattle.model.specs.Basics.{All, every}
 use Rattle.model.specs.Types.{type_of_code, code_of}
-use Rattle.model.specs.Step.{Use, nothing, value, attributes, label, fields_of, op_of, Encrypt, Decrypt, Derive, Command}
+use Rattle.model.specs.Step.{fields_of, op_of, Command}
+use Rattle.model.specs.declared.Operation.TheVariants.{Encrypt, Decrypt, Derive}
+use Rattle.model.specs.declared.Use.{Use}
+use Rattle.model.specs.declared.Use.TheVariants.{Nothing, Operand, Attributes, Label}
 use Rattle.model.specs.Session.{Arg, constant, of_line, Line, calls, computes}
 use Rattle.model.specs.Frame.{File, field_formed, step_formed, field_names, step_names, names_made, arg_names}
 use Rattle.model.specs.File.{file}
@@ -67,10 +70,10 @@ record SmallCommand (c : Command) : Type 0 where
   steps_small : All SmallStep c.steps
 
 field_small : (n : ℕ) (u : Use) (x : ℕ) → n < 256 → T (field_formed u x) → T (field_names n u x) → x < 256
-field_small n nothing x l formed named = omega (arith, eqb→eq)
-field_small n value x l formed named = omega (arith, ltb→lt)
-field_small n attributes x l formed named = omega (arith, ltb→lt)
-field_small n label x l formed named = omega (arith, ltb→lt)
+field_small n Nothing x l formed named = omega (arith, eqb→eq)
+field_small n Operand x l formed named = omega (arith, ltb→lt)
+field_small n Attributes x l formed named = omega (arith, ltb→lt)
+field_small n Label x l formed named = omega (arith, ltb→lt)
 
 step_small : (n : ℕ) (s : Step) → n < 256 → T (step_formed s) → T (step_names n s) → SmallStep s
 step_small n s l formed named = record {

@@ -8,9 +8,15 @@ use native.Mathlib.Omega.{arith}
 use lib.Dec.{T, eqb, ltb, leb, leb→le}
 use lib.ListN.{length, length-append, replicate}
 use Rattle.model.specs.Basics.{◌else◌then◌, every, All}
-use Rattle.model.specs.Types.{Ty, Un, type_of}
-use Rattle.model.specs.Step.{Op, Return, Get, Generate, Store, Compute, Unknown, Encrypt, Decrypt, Derive, op_of, Command}
-use Rattle.model.specs.Policy.{Policy, allows, offered, meets, lawful}
+use Rattle.model.specs.Types.{type_of}
+use Rattle.model.specs.declared.Ty.{Ty}
+use Rattle.model.specs.declared.Ty.TheVariants.{Un}
+use Rattle.model.specs.Step.{op_of, Command}
+use Rattle.model.specs.declared.Operation.TheVariants.{Encrypt, Decrypt, Derive}
+use Rattle.model.specs.declared.Op.{Op}
+use Rattle.model.specs.declared.Op.TheVariants.{Return, Get, Generate, Store, Compute, Unknown}
+use Rattle.model.specs.Policy.{allows, offered, meets, lawful}
+use Rattle.model.specs.declared.Policy.{Policy}
 use Rattle.model.specs.Typing.{return_ok, handle_ok, store_ok, encrypt_ok, decrypt_ok, derive_ok, refusal, type_at, step_gives, step_findings, findings, or_later, first_refusal, verdict}
 use Rattle.model.specs.Value.{Value, present, value_at, compute, operands}
 use Rattle.model.specs.Token.{State, Room, Out, gave, ended, stopped, full, and_then, fits, with_row, appear, new_atom, keep, with_place, guards_generated, guards_stored, generate, store, place_of, key_at, get, perform, run_steps, command_at, call}

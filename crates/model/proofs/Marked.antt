@@ -6,7 +6,9 @@ use Prim.Native.String.{String}
 use mathlib.Core.Path.{◌≡◌, refl}
 use mathlib.Core.List.{List, [], ◌∷◌, ◌++◌}
 use Rattle.model.specs.Basics.{index_by, those, up_from}
-use Rattle.model.specs.Types.{Ty, Un, TData, Data, Wrap, Seed, Any, None, type_of, join}
+use Rattle.model.specs.Types.{type_of, join}
+use Rattle.model.specs.declared.Ty.{Ty}
+use Rattle.model.specs.declared.Ty.TheVariants.{Un, TData, Data, Wrap, Seed, Any, None}
 use Rattle.model.specs.Policy.{join_of}
 use Rattle.model.specs.Typing.{findings, step_findings, first_refusal}
 use Rattle.model.specs.Value.{Value, const, enc, dec, decrypt, same}

@@ -10,9 +10,16 @@ use native.Mathlib.Omega.{arith}
 use lib.Dec.{T, eqb, ltb, eqb→eq, ltb→lt, T_not, not_T}
 use lib.ListN.{length, replicate}
 use Rattle.model.specs.Basics.{All, ◌else◌then◌, some, those, up_from, implies}
-use Rattle.model.specs.Types.{Ty, Un, None, is, typed, below, type_of}
-use Rattle.model.specs.Step.{Op, Return, Get, Generate, Store, Compute, Unknown, Operation, Encrypt, Decrypt, Derive, op_of, Command}
-use Rattle.model.specs.Policy.{Policy, allows, meets, join_of, get_type, lawful}
+use Rattle.model.specs.Types.{is, typed, below, type_of}
+use Rattle.model.specs.declared.Ty.{Ty}
+use Rattle.model.specs.declared.Ty.TheVariants.{Un, None}
+use Rattle.model.specs.Step.{op_of, Command}
+use Rattle.model.specs.declared.Operation.{Operation}
+use Rattle.model.specs.declared.Operation.TheVariants.{Encrypt, Decrypt, Derive}
+use Rattle.model.specs.declared.Op.{Op}
+use Rattle.model.specs.declared.Op.TheVariants.{Return, Get, Generate, Store, Compute, Unknown}
+use Rattle.model.specs.Policy.{allows, meets, join_of, get_type, lawful}
+use Rattle.model.specs.declared.Policy.{Policy}
 use Rattle.model.specs.Typing.{return_ok, store_ok, encrypt_ok, decrypt_ok, derive_ok, refusal, gives, type_at, step_gives, step_findings, findings, verdict}
 use Rattle.model.specs.Value.{Value, const, fresh, enc, dec, div, is_const, value_at, compute, operands, present}
 use Rattle.model.specs.Token.{Key, World, State, Room, Out, gave, ended, stopped, full, and_then, fits, with_row, appear, new_atom, guard_if, keep, with_place, guards_generated, guards_stored, generate, store, place_of, key_at, get, perform, run_steps, command_at, call}

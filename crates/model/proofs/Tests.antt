@@ -8,7 +8,9 @@ use native.Mathlib.Omega.{arith}
 use native.Mathlib.Decide.{ℕ_discrete}
 use lib.Dec.{T}
 use Rattle.model.specs.Basics.{◌else◌then◌, implies, every, up_from}
-use Rattle.model.specs.Types.{Ty, Un, TData, Data, Wrap, Seed, Any, None, types}
+use Rattle.model.specs.Types.{types}
+use Rattle.model.specs.declared.Ty.{Ty}
+use Rattle.model.specs.declared.Ty.TheVariants.{Un, TData, Data, Wrap, Seed, Any, None}
 
 pub and_left : (a b : Bool) → T (a && b) → T a
 and_left true b t = tt

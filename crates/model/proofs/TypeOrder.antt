@@ -3,7 +3,9 @@
 use mathlib.Core.Path.{◌≡◌, refl, sym, ap, ◌∙◌}
 use lib.Dec.{T, eqb→eq}
 use Rattle.model.specs.Basics.{implies}
-use Rattle.model.specs.Types.{Ty, Un, TData, Data, Wrap, Seed, Any, None, type_of_code, code_of, is, typed, below, join}
+use Rattle.model.specs.Types.{type_of_code, code_of, is, typed, below, join}
+use Rattle.model.specs.declared.Ty.{Ty}
+use Rattle.model.specs.declared.Ty.TheVariants.{Un, TData, Data, Wrap, Seed, Any, None}
 use Rattle.model.proofs.Tests.{apply, apply₂, each, each₂, each₃}
 
 pub code_back : (a : Ty) → type_of_code (code_of a) ≡ a

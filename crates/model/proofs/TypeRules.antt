@@ -6,7 +6,9 @@ use mathlib.Core.Bool.{Bool, not, cond, ◌&&◌}
 use native.Mathlib.Omega.{arith}
 use lib.Dec.{T}
 use Rattle.model.specs.Basics.{implies, every, up_from}
-use Rattle.model.specs.Types.{Ty, Un, Seed, None, is, typed, below, join, type_of}
+use Rattle.model.specs.Types.{is, typed, below, join, type_of}
+use Rattle.model.specs.declared.Ty.{Ty}
+use Rattle.model.specs.declared.Ty.TheVariants.{Un, Seed, None}
 use Rattle.model.specs.Policy.{templates}
 use Rattle.model.specs.Typing.{return_ok, store_ok, encrypt_ok, decrypt_ok, decrypt_type, derive_ok, seed_types, seed_gives, derive_type}
 use Rattle.model.specs.Token.{guards_generated, guards_stored}

@@ -9,7 +9,9 @@ use native.Mathlib.Decide.{ℕ_discrete}
 use lib.Dec.{T, eqb, eqb→eq, eqb_refl}
 use lib.ListN.{length, replicate}
 use Rattle.model.specs.Basics.{All}
-use Rattle.model.specs.Types.{Ty, Un, None, typed, below}
+use Rattle.model.specs.Types.{typed, below}
+use Rattle.model.specs.declared.Ty.{Ty}
+use Rattle.model.specs.declared.Ty.TheVariants.{Un, None}
 use Rattle.model.specs.Typing.{decrypt_ok, decrypt_type, type_at}
 use Rattle.model.specs.Value.{Value, const, fresh, enc, dec, div, same, decrypt, value-discrete, value_at}
 use Rattle.model.specs.Session.{Finished, outcomes_of}

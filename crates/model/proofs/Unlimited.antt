@@ -7,7 +7,9 @@ use mathlib.Core.List.{List, [], ◌∷◌, ◌++◌}
 use native.Mathlib.Omega.{arith}
 use lib.Dec.{eqb, ltb}
 use lib.ListN.{length, length-append}
-use Rattle.model.specs.Step.{Op, Return, Get, Generate, Store, Compute, Unknown, op_of, Command}
+use Rattle.model.specs.Step.{op_of, Command}
+use Rattle.model.specs.declared.Op.{Op}
+use Rattle.model.specs.declared.Op.TheVariants.{Return, Get, Generate, Store, Compute, Unknown}
 use Rattle.model.specs.Policy.{meets}
 use Rattle.model.specs.Value.{Value, present, value_at, compute, operands}
 use Rattle.model.specs.Token.{State, Room, unlimited, Out, gave, ended, stopped, full, and_then, with_row, appear, new_atom, keep, guards_generated, guards_stored, generate, store, place_of, key_at, get, perform, run_steps, command_at, call}

@@ -2,9 +2,14 @@
 -- the scope's sections "Files" and "Numbers of the answers".
 use Rattle.std.specs.Prelude.{ℕ, zero, suc, ◌+◌, ◌-◌, ◌*◌, Bool, true, false, not, cond, ◌&&◌, List, [], ◌∷◌, ◌++◌, eqb, ltb, leb, get_or, length, drop}
 use Rattle.model.specs.Basics.{◌else◌then◌, every}
-use Rattle.model.specs.Types.{Un, type_of_code}
-use Rattle.model.specs.Step.{ops, op_of, Use, nothing, value, attributes, label, fields_of, Encrypt, Decrypt, Derive, Command}
-use Rattle.model.specs.Policy.{Policy, lawful}
+use Rattle.model.specs.Types.{type_of_code}
+use Rattle.model.specs.declared.Ty.TheVariants.{Un}
+use Rattle.model.specs.Step.{ops, op_of, fields_of, Command}
+use Rattle.model.specs.declared.Operation.TheVariants.{Encrypt, Decrypt, Derive}
+use Rattle.model.specs.declared.Use.{Use}
+use Rattle.model.specs.declared.Use.TheVariants.{Nothing, Operand, Attributes, Label}
+use Rattle.model.specs.Policy.{lawful}
+use Rattle.model.specs.declared.Policy.{Policy}
 use Rattle.model.specs.Token.{command_at}
 use Rattle.model.specs.Session.{Arg, constant, of_line, Line, calls, computes}
 use Rattle.model.specs.Text.{number_from}
@@ -35,10 +40,10 @@ command_of f = record { params = byte_at f 1; steps = steps_of (drop 3 f) }
 
 -- a field that is not used is 0, a set of attributes is below 64, and a label is 0 or 1
 abbrev pub field_formed : Use → ℕ → Bool
-field_formed nothing x = eqb x 0
-field_formed value x = true
-field_formed attributes x = ltb x 64
-field_formed label x = ltb x 2
+field_formed Nothing x = eqb x 0
+field_formed Operand x = true
+field_formed Attributes x = ltb x 64
+field_formed Label x = ltb x 2
 
 abbrev pub step_formed : Step → Bool
 step_formed s =
@@ -64,10 +69,10 @@ command_formed f =
 
 -- a field that names a value names one of the n made so far
 abbrev pub field_names : ℕ → Use → ℕ → Bool
-field_names n nothing x = true
-field_names n value x = ltb x n
-field_names n attributes x = true
-field_names n label x = true
+field_names n Nothing x = true
+field_names n Operand x = ltb x n
+field_names n Attributes x = true
+field_names n Label x = true
 
 abbrev pub step_names : ℕ → Step → Bool
 step_names n s = field_names n (fields_of (op_of s)).a s.a && field_names n (fields_of (op_of s)).b s.b

@@ -10,4 +10,5 @@ pub mod Text
 pub mod Frame
 pub mod File
 pub mod Report
+pub mod Numbers
 pub mod Tables

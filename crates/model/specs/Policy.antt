@@ -1,13 +1,11 @@
 -- What a policy allows, and the type of a key that a step gets under it: the scope's sections "Files" and "Typing of steps".
 use Rattle.std.specs.Prelude.{ℕ, ◌/◌, ◌%◌, ◌^◌, Bool, ◌&&◌, List, [], ◌∷◌, eqb, ltb}
 use Rattle.model.specs.Basics.{implies, every, those, up_from}
-use Rattle.model.specs.Types.{Ty, None, typed, type_of, join, contains}
+use Rattle.model.specs.Types.{typed, type_of, join, contains}
+use Rattle.model.specs.declared.Ty.{Ty}
+use Rattle.model.specs.declared.Ty.TheVariants.{None}
 use Rattle.model.specs.declared.Step.{Step}
-
--- the transported type r, and the set of the templates that are allowed, a number of 64 bits
-pub record Policy : Type 0 where
-  pub transported : Ty
-  pub allowing : ℕ
+use Rattle.model.specs.declared.Policy.{Policy}
 
 abbrev pub templates : List ℕ
 templates = up_from 0 64

@@ -2,7 +2,8 @@
 -- "The token and the attacker" and, for the place of an ending, "Numbers of the answers".
 use Rattle.std.specs.Prelude.{ℕ, suc, Bool, false, not, ◌||◌, List, [], ◌∷◌, ◌++◌, map, T, get_or, length}
 use Rattle.model.specs.Basics.{some}
-use Rattle.model.specs.Step.{Operation, Command}
+use Rattle.model.specs.Step.{Command}
+use Rattle.model.specs.declared.Operation.{Operation}
 use Rattle.model.specs.Value.{Value, const, same, is_const, compute, row_of}
 use Rattle.model.specs.Token.{State, empty, Room, Out, gave, ended, stopped, full, and_then, appear, call}
 

@@ -1,17 +1,11 @@
 -- Steps and commands: the scope's section "Files", from "Within a command" on.
 use Rattle.std.specs.Prelude.{ℕ, List, [], ◌∷◌, get_or}
 use Rattle.model.specs.declared.Step.{Step}
-
--- what is computed from values alone, by a step or by a line of the session; a derivation has a label
-pub data Operation : Type 0 where
-  Encrypt Decrypt : Operation
-  Derive : ℕ → Operation
-
--- what a step does; reading lets no step through whose op is unknown
-pub data Op : Type 0 where
-  Return Get Generate Store : Op
-  Compute : Operation → Op
-  Unknown : Op
+use Rattle.model.specs.declared.Operation.TheVariants.{Encrypt, Decrypt, Derive}
+use Rattle.model.specs.declared.Op.{Op}
+use Rattle.model.specs.declared.Op.TheVariants.{Return, Get, Generate, Store, Compute, Unknown}
+use Rattle.model.specs.declared.Use.TheVariants.{Nothing, Operand, Attributes, Label}
+use Rattle.model.specs.declared.Fields.{Fields}
 
 -- the ops by their numbers, from 0, where field t is the given one
 abbrev pub ops : ℕ → List Op
@@ -20,24 +14,16 @@ ops t = Return ∷ Get ∷ Generate ∷ Store ∷ Compute Encrypt ∷ Compute De
 abbrev pub op_of : Step → Op
 op_of s = get_or (ops s.t) s.op Unknown
 
--- what an op has in a field: nothing, the number of a value, a set of attributes, or a label
-pub data Use : Type 0 where
-  nothing value attributes label : Use
-
-pub record Fields : Type 0 where
-  pub a : Use
-  pub b : Use
-  pub t : Use
-
+-- what an op has in its fields
 abbrev pub fields_of : Op → Fields
-fields_of Return = record { a = value; b = nothing; t = nothing }
-fields_of Get = record { a = value; b = nothing; t = attributes }
-fields_of Generate = record { a = nothing; b = nothing; t = attributes }
-fields_of Store = record { a = value; b = nothing; t = attributes }
-fields_of (Compute Encrypt) = record { a = value; b = value; t = nothing }
-fields_of (Compute Decrypt) = record { a = value; b = value; t = nothing }
-fields_of (Compute (Derive l)) = record { a = nothing; b = value; t = label }
-fields_of Unknown = record { a = nothing; b = nothing; t = nothing }
+fields_of Return = record { a = Operand; b = Nothing; t = Nothing }
+fields_of Get = record { a = Operand; b = Nothing; t = Attributes }
+fields_of Generate = record { a = Nothing; b = Nothing; t = Attributes }
+fields_of Store = record { a = Operand; b = Nothing; t = Attributes }
+fields_of (Compute Encrypt) = record { a = Operand; b = Operand; t = Nothing }
+fields_of (Compute Decrypt) = record { a = Operand; b = Operand; t = Nothing }
+fields_of (Compute (Derive l)) = record { a = Nothing; b = Operand; t = Label }
+fields_of Unknown = record { a = Nothing; b = Nothing; t = Nothing }
 
 -- a command: how many parameters it has, and its steps; value i is parameter i, or made by step i - params
 pub record Command : Type 0 where

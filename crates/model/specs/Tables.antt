@@ -2,7 +2,9 @@
 use Rattle.std.specs.Prelude.{ℕ, suc, ◌+◌, ◌-◌, ◌*◌, ◌≤◌, ◌<◌, ◌≡◌, Bool, true, cond, ◌&&◌, List, [], ◌∷◌, ◌++◌, map, T, eqb, ltb, leb, length, replicate}
 use Rattle.model.specs.Basics.{All, every}
 use Rattle.model.specs.Types.{code_of}
-use Rattle.model.specs.Step.{Operation, Command, Encrypt, Decrypt, Derive}
+use Rattle.model.specs.Step.{Command}
+use Rattle.model.specs.declared.Operation.{Operation}
+use Rattle.model.specs.declared.Operation.TheVariants.{Encrypt, Decrypt, Derive}
 use Rattle.model.specs.Value.{Value, const, fresh, enc, dec, div, row_of, value_at}
 use Rattle.model.specs.Token.{Key, Room}
 use Rattle.model.specs.Session.{Arg, constant, of_line, Line, calls, computes, Finished, Flat, run}

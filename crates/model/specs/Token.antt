@@ -3,7 +3,9 @@
 use Rattle.std.specs.Prelude.{ℕ, suc, Bool, true, false, cond, ◌&&◌, ◌||◌, List, [], ◌∷◌, ◌++◌, ltb, eqb, get_or, length}
 use Rattle.model.specs.Basics.{index_by}
 use Rattle.model.specs.Types.{sensitive, always_sensitive}
-use Rattle.model.specs.Step.{Op, Return, Get, Generate, Store, Compute, Unknown, op_of, Command}
+use Rattle.model.specs.Step.{op_of, Command}
+use Rattle.model.specs.declared.Op.{Op}
+use Rattle.model.specs.declared.Op.TheVariants.{Return, Get, Generate, Store, Compute, Unknown}
 use Rattle.model.specs.Policy.{meets}
 use Rattle.model.specs.Value.{Value, const, fresh, same, value_at, compute, operands, present}
 use Rattle.model.specs.declared.Step.{Step}

@@ -1,6 +1,8 @@
 -- Templates and their types: the scope's section "Attributes and their types".
 use Rattle.std.specs.Prelude.{ℕ, ◌/◌, ◌%◌, Bool, true, false, not, cond, ◌&&◌, ◌||◌, List, [], ◌∷◌, eqb, get_or}
 use Rattle.model.specs.Basics.{implies, every}
+use Rattle.model.specs.declared.Ty.{Ty}
+use Rattle.model.specs.declared.Ty.TheVariants.{Un, TData, Data, Wrap, Seed, Any, None}
 
 -- A template is a set of attributes, and a set of attributes is the sum of their weights:
 -- S sensitive 1, A always-sensitive 2, E encrypt 4, D decrypt 8, W wrap 16, U unwrap 32.
@@ -22,10 +24,6 @@ wrap_role t = has t 16 || has t 32
 -- the template t contains all attributes of the set s
 abbrev pub contains : ℕ → ℕ → Bool
 contains t s = every (λ w. implies (has s w) (has t w)) (1 ∷ 2 ∷ 4 ∷ 8 ∷ 16 ∷ 32 ∷ [])
-
--- the six types; `None` stands for "no type": of a template that has none, and of a join over no template
-pub data Ty : Type 0 where
-  Un TData Data Wrap Seed Any None : Ty
 
 -- the types in the order of their codes, 0 to 5
 abbrev pub types : List Ty

@@ -1,9 +1,15 @@
 -- The verdict: the scope's section "Typing of steps", and its verdict refusals 16 to 23.
 use Rattle.std.specs.Prelude.{ℕ, zero, suc, Bool, cond, ◌&&◌, ◌||◌, List, [], ◌∷◌, ◌++◌, ltb, get_or, length, replicate}
 use Rattle.model.specs.Basics.{◌else◌then◌}
-use Rattle.model.specs.Types.{Ty, Un, TData, Data, Wrap, Seed, is, below, type_of}
-use Rattle.model.specs.Step.{Op, Return, Get, Generate, Store, Compute, Unknown, Encrypt, Decrypt, Derive, op_of, Command}
-use Rattle.model.specs.Policy.{Policy, allows, offered, get_type}
+use Rattle.model.specs.Types.{is, below, type_of}
+use Rattle.model.specs.declared.Ty.{Ty}
+use Rattle.model.specs.declared.Ty.TheVariants.{Un, TData, Data, Wrap, Seed}
+use Rattle.model.specs.Step.{op_of, Command}
+use Rattle.model.specs.declared.Operation.TheVariants.{Encrypt, Decrypt, Derive}
+use Rattle.model.specs.declared.Op.{Op}
+use Rattle.model.specs.declared.Op.TheVariants.{Return, Get, Generate, Store, Compute, Unknown}
+use Rattle.model.specs.Policy.{allows, offered, get_type}
+use Rattle.model.specs.declared.Policy.{Policy}
 use Rattle.model.specs.declared.Step.{Step}
 use Rattle.model.specs.declared.Verdict.{Verdict}
 

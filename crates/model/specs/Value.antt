@@ -3,7 +3,8 @@ use Rattle.std.specs.Prelude.{ℕ, Bool, true, false, cond, List, [], ◌∷◌,
 use Rattle.std.proofs.Math.Bool.{decide}
 use Rattle.std.proofs.Math.Decide.{ℕ_discrete}
 use Rattle.model.specs.Basics.{index_by}
-use Rattle.model.specs.Step.{Operation, Encrypt, Decrypt, Derive}
+use Rattle.model.specs.declared.Operation.{Operation}
+use Rattle.model.specs.declared.Operation.TheVariants.{Encrypt, Decrypt, Derive}
 
 -- a constant, a fresh atom, an encryption, an undone encryption: the second part is the key; what is derived under a label
 pub data Value : Type 0 where

@@ -9,7 +9,8 @@ use native.Mathlib.Numerals.{add-one}
 use borrow.Author.Tests.{ltb-true}
 use lib.Dec.{ltb}
 use lib.ListN.{length, length-append, get_or-eq_default}
-use Rattle.model.specs.Step.{Unknown, ops, op_of}
+use Rattle.model.specs.Step.{ops, op_of}
+use Rattle.model.specs.declared.Op.TheVariants.{Unknown}
 use Rattle.model.specs.declared.Step.{Step}
 use Rattle.model.specs.Value.{Value, const, fresh, enc, dec, div, same, decrypt, row_of, present, value_at}
 use Rattle.model.specs.Token.{State, Room, at_most, gave, ended, stopped, full, with_row, with_atom, appear, new_atom, perform}

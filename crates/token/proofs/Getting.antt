@@ -10,7 +10,8 @@ use lib.Dec.{eqb, ltb}
 use lib.ListN.{length, get_or, take}
 use lib.Seq.{get_or-take}
 use Rattle.model.specs.Basics.{index_by}
-use Rattle.model.specs.Step.{Unknown, ops, op_of}
+use Rattle.model.specs.Step.{ops, op_of}
+use Rattle.model.specs.declared.Op.TheVariants.{Unknown}
 use Rattle.model.specs.Policy.{meets}
 use Rattle.model.specs.Value.{Value, same, row_of, present, value_at}
 use Rattle.model.specs.Token.{State, Room, stopped, appear, place_of, key_at, get, perform}

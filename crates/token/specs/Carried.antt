@@ -1,6 +1,8 @@
 -- When the lent tables and the counts carry a state of the model, and what a function that takes the state on answers and leaves there.
 use Rattle.std.specs.Prelude.{ℕ, ◌≤◌, ◌<◌, ◌≡◌, true, false, List, ◌++◌, map, length, take, get_or}
-use Rattle.model.specs.Step.{Use, nothing, value, attributes, label, fields_of, op_of}
+use Rattle.model.specs.Step.{fields_of, op_of}
+use Rattle.model.specs.declared.Use.{Use}
+use Rattle.model.specs.declared.Use.TheVariants.{Nothing, Operand, Attributes, Label}
 use Rattle.model.specs.Value.{Value, fresh, row_of, present, value_at}
 use Rattle.model.specs.Token.{Key, State, Room, at_most, Out, gave, ended, stopped, full, key_at}
 use Rattle.model.specs.Tables.{padded, key_code}
@@ -57,10 +59,10 @@ pub record Ready (c : Counts) (rows keys guards : List ℕ) : Type 0 where
 
 -- the rows x and y that a step's fields name are below n, where its op uses them
 abbrev pub UsedBelow : Use → ℕ → ℕ → Type 0
-UsedBelow nothing x n = Unit {0}
-UsedBelow value x n = x < n
-UsedBelow attributes x n = Unit {0}
-UsedBelow label x n = Unit {0}
+UsedBelow Nothing x n = Unit {0}
+UsedBelow Operand x n = x < n
+UsedBelow Attributes x n = Unit {0}
+UsedBelow Label x n = Unit {0}
 
 pub record Named (s : Step) (x y n : ℕ) : Type 0 where
   pub a_named : UsedBelow (fields_of (op_of s)).a x n

@@ -8,7 +8,8 @@ use native.Mathlib.Omega.{arith}
 use lib.Dec.{eqb, ltb}
 use lib.ListN.{get_or-eq_default}
 use borrow.Author.Tests.{le-ltb, eq-eqb, ne_eqb}
-use Rattle.model.specs.Types.{Data, None, types, code_of, type_of_code, below, join}
+use Rattle.model.specs.Types.{types, code_of, type_of_code, below, join}
+use Rattle.model.specs.declared.Ty.TheVariants.{Data, None}
 use Rattle.types.proofs.Table.{same_below, same_at_pairs}
 
 code_of_its_type : (n : ℕ) → n < 6 → code_of (type_of_code n) ≡ n

@@ -5,7 +5,7 @@ use mathlib.Core.Path.{◌≡◌, refl, ap, ◌∙◌}
 use mathlib.Core.List.{List, [], ◌∷◌, ◌++◌, append_assoc}
 use Rattle.model.specs.Basics.{All}
 use Rattle.model.specs.Step.{Command}
-use Rattle.model.specs.Policy.{Policy}
+use Rattle.model.specs.declared.Policy.{Policy}
 use Rattle.model.specs.Typing.{findings, or_later, first_refusal, verdict}
 use Rattle.model.specs.declared.Verdict.{Verdict}
 use Rattle.model.proofs.Acceptance.{Met, no_refusal}

@@ -9,9 +9,11 @@ use native.Mathlib.Decide.{ℕ_discrete}
 use lib.ListN.{get_or, length, take, drop, set, replicate, length-append, length-set, length-take, length-map, length-replicate, drop_of_length-le, get_or-map}
 use lib.Seq.{drop-cons, get_or-take, get_or_at, get_or-set_same, get_or-set_other}
 use Rattle.model.specs.Basics.{up_from}
-use Rattle.model.specs.Types.{Ty, Un, type_of_code}
+use Rattle.model.specs.Types.{type_of_code}
+use Rattle.model.specs.declared.Ty.{Ty}
+use Rattle.model.specs.declared.Ty.TheVariants.{Un}
 use Rattle.model.specs.Step.{op_of, Command}
-use Rattle.model.specs.Policy.{Policy}
+use Rattle.model.specs.declared.Policy.{Policy}
 use Rattle.model.specs.Frame.{File}
 use Rattle.model.specs.Typing.{refusal, gives, type_at, step_findings, findings, accepted, first_refusal, verdict}
 use Rattle.model.specs.declared.Step.{Step}

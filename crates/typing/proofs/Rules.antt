@@ -9,9 +9,13 @@ use lib.Dec.{eqb, ltb, lit<}
 use lib.ListN.{get_or, length, get_or-eq_default}
 use borrow.Author.Tests.{eq-eqb, ne_eqb}
 use Rattle.model.specs.Basics.{◌else◌then◌}
-use Rattle.model.specs.Types.{Ty, Un, TData, Data, Wrap, Seed, None, types, type_of_code, code_of, is, below, type_of}
-use Rattle.model.specs.Step.{ops, Unknown, op_of}
-use Rattle.model.specs.Policy.{Policy, allows, offered, get_type}
+use Rattle.model.specs.Types.{types, type_of_code, code_of, is, below, type_of}
+use Rattle.model.specs.declared.Ty.{Ty}
+use Rattle.model.specs.declared.Ty.TheVariants.{Un, TData, Data, Wrap, Seed, None}
+use Rattle.model.specs.Step.{ops, op_of}
+use Rattle.model.specs.declared.Op.TheVariants.{Unknown}
+use Rattle.model.specs.Policy.{allows, offered, get_type}
+use Rattle.model.specs.declared.Policy.{Policy}
 use Rattle.model.specs.Typing.{return_ok, handle_ok, store_ok, encrypt_ok, decrypt_ok, decrypt_type, derive_ok, derive_type, refusal, gives}
 use Rattle.model.specs.declared.Step.{Step}
 use Rattle.model.proofs.TypeOrder.{code_back}

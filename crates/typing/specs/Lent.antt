@@ -1,8 +1,9 @@
 -- What the verdict is lent, as the model has it: the policy from the answer's numbers, and the findings of one command.
 use Rattle.std.specs.Prelude.{ℕ, List, replicate}
-use Rattle.model.specs.Types.{Un, type_of_code}
+use Rattle.model.specs.Types.{type_of_code}
+use Rattle.model.specs.declared.Ty.TheVariants.{Un}
 use Rattle.model.specs.Step.{Command}
-use Rattle.model.specs.Policy.{Policy}
+use Rattle.model.specs.declared.Policy.{Policy}
 use Rattle.model.specs.Typing.{step_findings}
 use Rattle.model.specs.declared.Verdict.{Verdict}
 

@@ -1,7 +1,8 @@
 -- `frames::step::fields_of` meets its contract, by the op; an op above 6 is unknown and has nothing in its fields.
 -- Assumes nothing.
 use lib.ListN.{get_or-eq_default}
-use Rattle.model.specs.Step.{ops, Unknown}
+use Rattle.model.specs.Step.{ops}
+use Rattle.model.specs.declared.Op.TheVariants.{Unknown}
 use native.Mathlib.Omega.{arith}
 use Rattle.frames.proofs.step.fields_of.Goals as goal
 
