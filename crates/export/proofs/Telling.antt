@@ -5,11 +5,11 @@ use mathlib.Core.Path.{◌≡◌, refl, ap, subst, ◌∙◌}
 use mathlib.Core.List.{List, [], ◌∷◌}
 use lib.ListN.{length}
 use Rattle.model.specs.Tables.{Tables, ReadIs, VerdictIs, RunIs}
-use Rattle.model.specs.declared.Verdict.{Verdict}
-use Rattle.model.specs.declared.ReadAnswer.{ReadAnswer}
-use Rattle.model.specs.declared.ReadAnswer.TheVariants as read
-use Rattle.model.specs.declared.RunAnswer.{RunAnswer}
-use Rattle.model.specs.declared.RunAnswer.TheVariants as ran
+use Rattle.model.specs.Typing.{Verdict}
+use Rattle.model.specs.Tables.{ReadAnswer}
+use Rattle.model.specs.Tables as read
+use Rattle.model.specs.Tables.{RunAnswer}
+use Rattle.model.specs.Tables as ran
 use Rattle.export.specs.Exported.{read_numbers, verdict_numbers, run_numbers, NumbersAre, ReadTold, VerdictTold, RunTold}
 
 -- a slice of another size
@@ -52,7 +52,7 @@ module _ {input space answer : List ℕ} {lent left : Tables} where
   run_told : {r : RunAnswer} → length space ≡ 5 → RunIs input lent r left → answer ≡ run_numbers r → RunTold input lent space 5 left answer
   run_told e h a = told e (a ∙ ap run_numbers h.answer) (subst (λ x. RunIs input lent x left) h.answer h)
 
-  pub refused_run_told : {r : RunAnswer} {n k a b : ℕ} → length space ≡ 5 → RunIs input lent r left → r ≡ ran.Refused n k
+  pub refused_run_told : {r : RunAnswer} {n k a b : ℕ} → length space ≡ 5 → RunIs input lent r left → r ≡ ran.NotRun n k
       → answer ≡ a ∷ b ∷ 0 ∷ 0 ∷ 0 ∷ [] → a ≡ n → b ≡ k → RunTold input lent space 5 left answer
   unfolding run_numbers
   refused_run_told e h q w an bk = run_told e h (w ∙ rw (an, bk, q))

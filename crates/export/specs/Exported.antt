@@ -3,11 +3,11 @@
 use Rattle.std.specs.Prelude.{ℕ, ◌≡◌, List, [], ◌∷◌, length}
 use Rattle.model.specs.File.{verdict_of}
 use Rattle.model.specs.Tables.{Tables, read_into, read_answer, run_answer, ReadIs, VerdictIs, RunIs, Untouched}
-use Rattle.model.specs.declared.Verdict.{Verdict}
-use Rattle.model.specs.declared.ReadAnswer.{ReadAnswer}
-use Rattle.model.specs.declared.ReadAnswer.TheVariants as read
-use Rattle.model.specs.declared.RunAnswer.{RunAnswer}
-use Rattle.model.specs.declared.RunAnswer.TheVariants as ran
+use Rattle.model.specs.Typing.{Verdict}
+use Rattle.model.specs.Tables.{ReadAnswer}
+use Rattle.model.specs.Tables as read
+use Rattle.model.specs.Tables.{RunAnswer}
+use Rattle.model.specs.Tables as ran
 
 -- number, frame, transported type's code, set of allowed templates, commands, session lines
 unfoldable pub read_numbers : ReadAnswer → List ℕ
@@ -20,7 +20,7 @@ verdict_numbers v = v.number ∷ v.frame ∷ v.step ∷ []
 
 -- number, frame, ending, its place, first breached line
 unfoldable pub run_numbers : RunAnswer → List ℕ
-run_numbers (ran.Refused number frame) = number ∷ frame ∷ 0 ∷ 0 ∷ 0 ∷ []
+run_numbers (ran.NotRun number frame) = number ∷ frame ∷ 0 ∷ 0 ∷ 0 ∷ []
 run_numbers (ran.Ended ending place first) = 0 ∷ 0 ∷ ending ∷ place ∷ first ∷ []
 
 -- the numbers stand in the slice, r says how many, and the tables keep the library's promise

@@ -17,7 +17,7 @@ use Rattle.model.specs.Policy.{lawful}
 use Rattle.model.specs.Frame.{Reading, nothing_read, Kind, policy_kind, command_kind, line_kind, other_kind, kind_of, byte_at, policy_of, policy_formed, in_place, body_refusal, frame_refusal, with_frame}
 use Rattle.model.specs.File.{refused, file, line_refusal, after_frame, unless_refused, parse_from, parse}
 use Rattle.model.specs.Tables.{Held, read_answer}
-use Rattle.model.specs.declared.ReadAnswer.TheVariants as read
+use Rattle.model.specs.Tables as read
 use Rattle.model.proofs.Tests.{and_right, met, every_in_range}
 use Rattle.text.specs.Scan.{taken, after, ScanIs}
 use Rattle.text.specs.declared.Scanned.{Scanned}

@@ -10,8 +10,8 @@ use lib.ListN.{length, length-replicate}
 use borrow.Author.Tests.{lt-leb}
 use Rattle.model.specs.File.{Parsed, refused, file, parse}
 use Rattle.model.specs.Tables.{Tables, zeros, right_lengths, read_into, read_answer, tables_read, ReadIs}
-use Rattle.model.specs.declared.ReadAnswer.{ReadAnswer}
-use Rattle.model.specs.declared.ReadAnswer.TheVariants as read
+use Rattle.model.specs.Tables.{ReadAnswer}
+use Rattle.model.specs.Tables as read
 use Rattle.model.proofs.Tests.{and_left, and_right}
 use Rattle.file.specs.Framed.{Lengths, Zeros, Cleared, Left, FramedIs, LeftIs}
 

@@ -2,7 +2,7 @@
 use Rattle.std.specs.Prelude.{ℕ, ◌≡◌, List, length}
 use Rattle.model.specs.File.{Parsed, refused, file}
 use Rattle.model.specs.Tables.{zeros, Held, read_answer}
-use Rattle.model.specs.declared.ReadAnswer.{ReadAnswer}
+use Rattle.model.specs.Tables.{ReadAnswer}
 
 -- the four tables that reading fills have their lengths
 pub record Lengths (heads arguments commands steps : List ℕ) : Type 0 where

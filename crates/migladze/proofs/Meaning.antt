@@ -9,7 +9,7 @@ use Rattle.model.specs.Frame.{File}
 use Rattle.model.specs.File.{file}
 use Rattle.model.specs.Report.{run_of}
 use Rattle.model.specs.Tables.{Tables, read_into, tables_run, RunIs}
-use Rattle.model.specs.declared.RunAnswer.{RunAnswer}
+use Rattle.model.specs.Tables.{RunAnswer}
 use Rattle.values.specs.Holds.{Holds}
 use Rattle.values.proofs.Held.{holds_padded, holds_one_list}
 

@@ -15,9 +15,9 @@ use Rattle.model.specs.Text.{written}
 use Rattle.model.specs.File.{refused, parse}
 use Rattle.model.specs.Report.{refusal_frame, run_of, first_breach, program_room, answer_to}
 use Rattle.model.specs.Tables.{zeros, padded, ReportIs, Tables, right_lengths, read_into, ReadIs, Reported, report_size}
-use Rattle.model.specs.declared.ReadAnswer.{ReadAnswer}
-use Rattle.model.specs.declared.ReadAnswer.TheVariants as read
-use Rattle.model.specs.declared.Verdict.{Verdict}
+use Rattle.model.specs.Tables.{ReadAnswer}
+use Rattle.model.specs.Tables as read
+use Rattle.model.specs.Typing.{Verdict}
 use Rattle.model.proofs.Fits.{verdict_fits, ending_fits, refusal_fits}
 use Rattle.printing.specs.Printed.{Printed, VerdictFits, Lines, report_bytes}
 use Rattle.session.specs.Sessioned.{RanIs}

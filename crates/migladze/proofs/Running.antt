@@ -8,15 +8,15 @@ use Rattle.model.specs.Frame.{File}
 use Rattle.model.specs.File.{refused}
 use Rattle.model.specs.Report.{run_of}
 use Rattle.model.specs.Tables.{Tables, Rows, read_into, tables_read, tables_run, run_answer, ReadIs, RunIs}
-use Rattle.model.specs.declared.ReadAnswer.{ReadAnswer}
-use Rattle.model.specs.declared.ReadAnswer.TheVariants as read
-use Rattle.model.specs.declared.RunAnswer.TheVariants as answered
+use Rattle.model.specs.Tables.{ReadAnswer}
+use Rattle.model.specs.Tables as read
+use Rattle.model.specs.Tables as answered
 use Rattle.session.specs.Sessioned.{SessionGiven, SessionReady, RanIs}
 use Rattle.session.specs.declared.Ran.{Ran}
 use Rattle.migladze.proofs.Taken.{refused_answer, refusal_is_no_file, TakenFile, one_file}
 
 pub refusal_run : (input : List ℕ) (lent left : Tables) (r : ReadAnswer) (n k : ℕ) → ReadIs input lent r left → r ≡ read.Refused n k
-    → RunIs input lent (answered.Refused n k) left
+    → RunIs input lent (answered.NotRun n k) left
 unfolding run_answer tables_read tables_run
 refusal_run input lent left r n k h e =
     let p : read_into lent input ≡ refused n k = refused_answer (read_into lent input) n k (sym e ∙ h.answer) in

@@ -11,9 +11,9 @@ use Rattle.model.specs.Typing.{verdict}
 use Rattle.model.specs.Frame.{File}
 use Rattle.model.specs.File.{Parsed, refused, file, parse, verdict_of}
 use Rattle.model.specs.Tables.{Tables, right_lengths, WellRead, read_into, read_answer, tables_read, ReadIs, VerdictIs}
-use Rattle.model.specs.declared.ReadAnswer.{ReadAnswer}
-use Rattle.model.specs.declared.ReadAnswer.TheVariants as read
-use Rattle.model.specs.declared.Verdict.{Verdict}
+use Rattle.model.specs.Tables.{ReadAnswer}
+use Rattle.model.specs.Tables as read
+use Rattle.model.specs.Typing.{Verdict}
 use Rattle.model.proofs.WellRead.{parsed_well_read}
 use Rattle.model.proofs.Secure.{Lawful, accepted_is_flat}
 use Rattle.model.proofs.Printed.{read_policy_lawful}

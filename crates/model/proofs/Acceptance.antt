@@ -10,7 +10,7 @@ use Rattle.model.specs.declared.Ty.TheVariants.{Un}
 use Rattle.model.specs.Step.{Command}
 use Rattle.model.specs.declared.Policy.{Policy}
 use Rattle.model.specs.Typing.{step_findings, findings, accepted, or_later, first_refusal, verdict}
-use Rattle.model.specs.declared.Verdict.{Verdict}
+use Rattle.model.specs.Typing.{Verdict}
 use Rattle.model.specs.Basics.{All}
 use Rattle.model.proofs.Lists.{all_append}
 

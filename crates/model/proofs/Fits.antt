@@ -26,7 +26,7 @@ use Rattle.model.specs.Frame.{File, Reading, nothing_read, Kind, policy_kind, co
 use Rattle.model.specs.File.{Parsed, refused, file, line_refusal, after_frame, unless_refused, parse_from, parse}
 use Rattle.model.specs.Tables.{command_read}
 use Rattle.model.specs.declared.Step.{Step}
-use Rattle.model.specs.declared.Verdict.{Verdict}
+use Rattle.model.specs.Typing.{Verdict}
 use Rattle.model.proofs.Tests.{and_left, and_right}
 
 else_fits : (b : Bool) (n rest : ℕ) → n < 256 → rest < 256 → (b else n then rest) < 256

@@ -18,7 +18,7 @@ use Rattle.model.specs.Text.{lines_of, digit_value, in_pairs, well_written, byte
 use Rattle.model.specs.Frame.{steps_of, returns_last, names_made, args_of}
 use Rattle.model.specs.File.{Parsed, refused, file, parse_from, parse, verdict_of}
 use Rattle.model.specs.Report.{answer, answer_to, line_frames}
-use Rattle.model.specs.declared.Verdict.{Verdict}
+use Rattle.model.specs.Typing.{Verdict}
 
 -- on an `unfolding` line this opens every definition that a case computes through
 unfoldable pub opened : Unit {0}

@@ -8,9 +8,9 @@ use native.Mathlib.Decide.{dec_le}
 use lib.ListN.{length}
 use Rattle.model.specs.File.{Parsed, refused, file}
 use Rattle.model.specs.Tables.{Tables, read_into, tables_read, tables_run, ReadIs, VerdictIs, RunIs, report_size, ReportIs}
-use Rattle.model.specs.declared.Verdict.{Verdict}
-use Rattle.model.specs.declared.ReadAnswer.{ReadAnswer}
-use Rattle.model.specs.declared.RunAnswer.{RunAnswer}
+use Rattle.model.specs.Typing.{Verdict}
+use Rattle.model.specs.Tables.{ReadAnswer}
+use Rattle.model.specs.Tables.{RunAnswer}
 
 pub read_unique : {input : List ℕ} {lent left left' : Tables} {r r' : ReadAnswer} → ReadIs input lent r left → ReadIs input lent r' left'
     → (r ≡ r') × (left ≡ left')

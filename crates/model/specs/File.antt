@@ -4,7 +4,7 @@ use Rattle.model.specs.Basics.{◌else◌then◌}
 use Rattle.model.specs.Typing.{verdict}
 use Rattle.model.specs.Text.{TextLine, lines_of, well_written, bytes_of}
 use Rattle.model.specs.Frame.{File, Reading, nothing_read, kind_of, frame_refusal, with_frame}
-use Rattle.model.specs.declared.Verdict.{Verdict}
+use Rattle.model.specs.Typing.{Verdict}
 
 pub data Parsed : Type 0 where
   refused : ℕ → ℕ → Parsed

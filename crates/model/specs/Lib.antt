@@ -12,3 +12,4 @@ pub mod File
 pub mod Report
 pub mod Numbers
 pub mod Tables
+pub mod Told

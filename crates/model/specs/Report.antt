@@ -7,7 +7,7 @@ use Rattle.model.specs.Session.{Outcome, value, none, Finished, Run, run}
 use Rattle.model.specs.Text.{two_bytes, written}
 use Rattle.model.specs.Frame.{File}
 use Rattle.model.specs.File.{Parsed, refused, file, parse}
-use Rattle.model.specs.declared.Verdict.{Verdict}
+use Rattle.model.specs.Typing.{Verdict}
 
 -- the room that the program has
 abbrev pub program_room : Room

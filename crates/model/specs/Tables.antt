@@ -2,6 +2,7 @@
 use Rattle.std.specs.Prelude.{ℕ, suc, ◌+◌, ◌-◌, ◌*◌, ◌≤◌, ◌<◌, ◌≡◌, Bool, true, cond, ◌&&◌, List, [], ◌∷◌, ◌++◌, map, T, eqb, ltb, leb, length, replicate}
 use Rattle.model.specs.Basics.{All, every}
 use Rattle.model.specs.Types.{code_of}
+use Rattle.model.specs.Typing.{Verdict}
 use Rattle.model.specs.Step.{Command}
 use Rattle.model.specs.declared.Operation.{Operation}
 use Rattle.model.specs.declared.Operation.TheVariants.{Encrypt, Decrypt, Derive}
@@ -12,11 +13,6 @@ use Rattle.model.specs.Frame.{File, step_formed, returns_last, names_made, line_
 use Rattle.model.specs.File.{Parsed, refused, file, parse, verdict_of}
 use Rattle.model.specs.Report.{stopped_byte, first_breach, run_of, answer_to}
 use Rattle.model.specs.declared.Step.{Step}
-use Rattle.model.specs.declared.Verdict.{Verdict}
-use Rattle.model.specs.declared.ReadAnswer.{ReadAnswer}
-use Rattle.model.specs.declared.ReadAnswer.TheVariants.{Refused, Taken}
-use Rattle.model.specs.declared.RunAnswer.{RunAnswer}
-use Rattle.model.specs.declared.RunAnswer.TheVariants as ran
 
 -- numbers, and zeros after them up to n
 abbrev pub zeros : ℕ → List ℕ
@@ -174,6 +170,12 @@ pub record WellRead (φ : File) : Type 0 where
 unfoldable pub read_into : Tables → List ℕ → Parsed
 read_into t input = let whole = parse input in cond (right_lengths t) whole (refused 15 0)
 
+-- what reading an input comes to: the refusal's number and frame; or the transported type's code, the set of allowed
+-- templates, and how many commands and session lines there are
+pub data ReadAnswer : Type 0 where
+  Refused : ℕ → ℕ → ReadAnswer
+  Taken : ℕ → ℕ → ℕ → ℕ → ReadAnswer
+
 unfoldable pub read_answer : Parsed → ReadAnswer
 read_answer (refused n k) = Refused n k
 read_answer (file φ) = Taken (code_of φ.policy.transported) φ.policy.allowing (length φ.commands) (length φ.lines)
@@ -202,9 +204,15 @@ pub record VerdictIs (input : List ℕ) (lent : Tables) (r : Verdict) (left : Ta
   pub flat : r.number ≡ 0 → (φ : File) → read_into lent input ≡ file φ → (ρ : Room) (ls : List Line)
       → All Flat (run ρ φ.commands ls).session.finished
 
+-- what running a session comes to: the refusal's number and frame; or the ending and its place, and the first breached
+-- line, 65535 where there is none
+pub data RunAnswer : Type 0 where
+  NotRun : ℕ → ℕ → RunAnswer
+  Ended : ℕ → ℕ → ℕ → RunAnswer
+
 unfoldable pub run_answer : Parsed → RunAnswer
-run_answer (refused n k) = ran.Refused n k
-run_answer (file φ) = ran.Ended (run_of φ).ending (run_of φ).place (first_breach (run_of φ).session.finished)
+run_answer (refused n k) = NotRun n k
+run_answer (file φ) = Ended (run_of φ).ending (run_of φ).place (first_breach (run_of φ).session.finished)
 
 unfoldable pub tables_run : Tables → Parsed → Tables
 tables_run t (refused n k) = cleared t

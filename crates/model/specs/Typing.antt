@@ -11,7 +11,6 @@ use Rattle.model.specs.declared.Op.TheVariants.{Return, Get, Generate, Store, Co
 use Rattle.model.specs.Policy.{allows, offered, get_type}
 use Rattle.model.specs.declared.Policy.{Policy}
 use Rattle.model.specs.declared.Step.{Step}
-use Rattle.model.specs.declared.Verdict.{Verdict}
 
 -- The rules on types. x is the type of the value that field a names, y of the one that field b names, r the transported type.
 
@@ -82,6 +81,12 @@ step_refusal p g s = refusal p (op_of s) s (type_at g s.a) (type_at g s.b)
 
 abbrev pub step_gives : Policy → List Ty → Step → Ty
 step_gives p g s = gives p (op_of s) s (type_at g s.a) (type_at g s.b)
+
+-- number 0 is acceptance, any other the first broken rule, at the frame of its command and at its step
+pub record Verdict : Type 0 where
+  pub number : ℕ
+  pub frame : ℕ
+  pub step : ℕ
 
 -- what each step of the command of frame f comes to, from step i on
 unfoldable pub step_findings : Policy → ℕ → ℕ → List Ty → List Step → List Verdict

@@ -70,31 +70,6 @@ pub struct Policy {
     pub allowing: u64,
 }
 
-// What the typing rules say of a file's commands: number 0 is acceptance, any other the first broken rule,
-// at the frame of its command and at its step.
-#[derive(Clone, Copy)]
-pub struct Verdict {
-    pub number: usize,
-    pub frame: usize,
-    pub step: usize,
-}
-
-// What reading an input comes to: the refusal's number and frame; or the transported type's code, the set of allowed
-// templates, and how many commands and session lines there are.
-#[derive(Clone, Copy)]
-pub enum ReadAnswer {
-    Refused(usize, usize),
-    Taken(u8, u64, usize, usize),
-}
-
-// What running a session comes to: the refusal's number and frame; or the ending and its place, and the first breached
-// line, 65535 where there is none.
-#[derive(Clone, Copy)]
-pub enum RunAnswer {
-    Refused(usize, usize),
-    Ended(usize, usize, usize),
-}
-
 impl Step {
     // The op of a step, with its label where it has one.
     pub fn op(self) -> Op
@@ -225,4 +200,68 @@ pub struct Broken {
     pub rule: Rule,
     pub frame: usize,
     pub step: usize,
+}
+
+// What a file has that was read: its policy, and how many commands and session lines there are.
+#[derive(Clone, Copy, PartialEq, Eq, Debug)]
+pub struct Contents {
+    pub policy: Policy,
+    pub commands: usize,
+    pub lines: usize,
+}
+
+// Why the commands of an input are not accepted: it is refused, or a step breaks a rule.
+#[derive(Clone, Copy, PartialEq, Eq, Debug)]
+pub enum Rejection {
+    Refused(Refusal),
+    Broken(Broken),
+}
+
+impl From<Refusal> for Rejection {
+    ghost use Rattle.std.specs.Prelude.{◌≡◌};
+    ghost use Rattle.model.specs.declared.Rejection.TheVariants.{Refused};
+
+    ghost from_gives = { λ r x. x ≡ Refused r };
+
+    fn from(r: Refusal) -> Rejection {
+        Rejection::Refused(r)
+    }
+}
+
+impl From<Broken> for Rejection {
+    ghost use Rattle.std.specs.Prelude.{◌≡◌};
+    ghost use Rattle.model.specs.declared.Rejection.TheVariants as rejection;
+
+    ghost from_gives = { λ b x. x ≡ rejection.Broken b };
+
+    fn from(b: Broken) -> Rejection {
+        Rejection::Broken(b)
+    }
+}
+
+// What ended a run before its last line, and at which line.
+#[derive(Clone, Copy, PartialEq, Eq, Debug)]
+pub struct Ending {
+    pub full: Full,
+    pub line: usize,
+}
+
+// What a run comes to: its ending, where it did not go through, and the first line with a breach mark.
+#[derive(Clone, Copy, PartialEq, Eq, Debug)]
+pub struct Ran {
+    pub ending: Option<Ending>,
+    pub first_breach: Option<usize>,
+}
+
+// The tables that a caller lends: rows and stored keys; of each session line its head, its arguments and its outcome;
+// commands and steps.
+#[derive(Drop)]
+pub struct Tables<'a> {
+    pub rows: &'a mut [u64],
+    pub keys: &'a mut [u64],
+    pub heads: &'a mut [u64],
+    pub arguments: &'a mut [u64],
+    pub outcomes: &'a mut [u64],
+    pub commands: &'a mut [u64],
+    pub steps: &'a mut [u64],
 }

@@ -13,7 +13,7 @@ use Rattle.model.specs.Session.{Outcome, value, none, Finished}
 use Rattle.model.specs.Text.{digits, written}
 use Rattle.model.specs.Report.{refusal_frame, stopped_byte, line_frame, line_frames}
 use Rattle.model.specs.Tables.{padded, zeros, outcome_code}
-use Rattle.model.specs.declared.Verdict.{Verdict}
+use Rattle.model.specs.Typing.{Verdict}
 use Rattle.printing.specs.Printed.{Printed, Lines, report_bytes}
 use Rattle.printing.specs.Placed.{Put, coded_frame, coded_frames}
 

@@ -4,7 +4,7 @@ use Rattle.model.specs.Session.{Finished, none}
 use Rattle.model.specs.Text.{two_bytes, written}
 use Rattle.model.specs.Report.{verdict_frame, line_frames}
 use Rattle.model.specs.Tables.{padded, outcome_code}
-use Rattle.model.specs.declared.Verdict.{Verdict}
+use Rattle.model.specs.Typing.{Verdict}
 
 -- the buffer of a length holds these bytes, and r says how many they are
 pub record Printed (bytes : List ℕ) (size r : ℕ) (buffer : List ℕ) : Type 0 where

@@ -17,7 +17,7 @@ use Rattle.model.specs.declared.Policy.{Policy}
 use Rattle.model.specs.Frame.{File}
 use Rattle.model.specs.Typing.{refusal, gives, type_at, step_findings, findings, accepted, first_refusal, verdict}
 use Rattle.model.specs.declared.Step.{Step}
-use Rattle.model.specs.declared.Verdict.{Verdict}
+use Rattle.model.specs.Typing.{Verdict}
 use Rattle.model.proofs.TypeOrder.{code_back}
 use Rattle.typing.specs.Given.{Given}
 use Rattle.decoding.specs.Decoded.{step_from, command_from}

@@ -5,7 +5,7 @@ use Rattle.model.specs.declared.Ty.TheVariants.{Un}
 use Rattle.model.specs.Step.{Command}
 use Rattle.model.specs.declared.Policy.{Policy}
 use Rattle.model.specs.Typing.{step_findings}
-use Rattle.model.specs.declared.Verdict.{Verdict}
+use Rattle.model.specs.Typing.{Verdict}
 
 abbrev pub policy_from : ℕ → ℕ → Policy
 policy_from transported allowing = record { transported = type_of_code transported; allowing = allowing }
