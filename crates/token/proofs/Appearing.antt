@@ -6,25 +6,30 @@ use mathlib.Core.Bool.{Bool, true, false, cond, true≢false}
 use mathlib.Core.List.{List, [], ◌∷◌, ◌++◌, append-nil}
 use native.Mathlib.Omega.{arith}
 use native.Mathlib.Numerals.{add-one}
-use borrow.Author.Tests.{ltb-true}
+use native.Mathlib.Decide.{dec_lt}
+use borrow.Author.Tests.{lt-ltb, le-ltb, ltb-true}
 use lib.Dec.{ltb}
 use lib.ListN.{length, length-append, get_or-eq_default}
-use Rattle.model.specs.Step.{ops, op_of}
-use Rattle.model.specs.declared.Op.TheVariants.{Unknown}
-use Rattle.model.specs.declared.Step.{Step}
-use Rattle.model.specs.Value.{Value, const, fresh, enc, dec, div, same, decrypt, row_of, present, value_at}
-use Rattle.model.specs.Token.{State, Room, at_most, gave, ended, stopped, full, with_row, with_atom, appear, new_atom, perform}
-use Rattle.model.specs.Tables.{PartsBelow}
+use Rattle.model.specs.declared.Full.TheVariants.{Rows}
+use Rattle.model.specs.declared.Operation.{Operation}
+use Rattle.model.specs.declared.Operation.TheVariants.{Encrypt, Decrypt, Derive}
+use Rattle.model.specs.Value.{Value, const, fresh, enc, dec, div, same, decrypt, compute, operands, row_of, present, value_at}
+use Rattle.model.specs.Token.{State, Room, at_most, gave, ended, stopped, full, with_row, with_atom, appear, new_atom}
+use Rattle.std.specs.Prelude.{Option, Some, None, Result}
+use Rattle.std.specs.Option.{ok_or}
+use Rattle.model.specs.Tables.{PartsBelow, Rows as RowsOf}
+use Rattle.values.specs.Filled.{interned_told, NextPlace}
 use Rattle.values.specs.Holds.{answer_in, rows_in, Appeared}
 use Rattle.values.specs.declared.Interned.{Interned}
 use Rattle.values.specs.declared.Interned.TheVariants.{Found, Added, NoRoom}
 use Rattle.values.proofs.Present.{below_means_present, row_added}
 use Rattle.values.proofs.Rows.{row_at, present_at, parts_at}
-use Rattle.token.specs.Carried.{room_of, counts_of, FewAtoms, Carries, Extends, Performs}
+use Rattle.token.specs.Carried.{room_of, counts_of, FewAtoms, OperandsBelow, Carries, Extends, Performs}
 use Rattle.token.specs.Numbers.{one_row, one_atom, took_of, atom_of, MakesAtom}
 use Rattle.token.specs.declared.Counts.{Counts}
-use Rattle.token.specs.declared.Outcome.{Outcome}
-use Rattle.token.specs.declared.Outcome.TheVariants.{Gave, Ended, Stopped, Full}
+use Rattle.token.specs.declared.Halt.{Halt}
+use Rattle.token.specs.declared.Halt.TheVariants as halt
+use Rattle.token.specs.Outcome.{Outcome, Gave, Ended, Stopped, Full, outcome_told}
 use Rattle.token.proofs.Growing.{same_rows, carries_in, carries_atom, carries_row}
 use Rattle.token.proofs.Undoing.{extends_refl, extends_trans}
 
@@ -44,10 +49,6 @@ module _ {σ : State} {t ks gs : List ℕ} {c : Counts} (C : Carries σ t ks gs)
 
   pub stops_as_it_is : Performs σ (stopped σ) (Stopped c) t ks gs
   stops_as_it_is = record { answer = ap Stopped count; has_row = tt; atoms_rowed = few; carries = C; extends = extends_refl σ }
-
-  pub unknown_op_stops : (ρ : Room) (s : Step) (v w : Value) → 7 ≤ s.op → Performs σ (perform ρ (op_of s) s v w σ) (Stopped c) t ks gs
-  unknown_op_stops ρ s v w h =
-      subst (λ o. Performs σ (perform ρ o s v w σ) (Stopped c) t ks gs) (sym (get_or-eq_default (ops s.t) Unknown h)) stops_as_it_is
 
   pub full_as_it_is : (n : ℕ) → Performs σ (full n σ) (Full n c) t ks gs
   full_as_it_is n = record { answer = ap (Full n) count; has_row = tt; atoms_rowed = tt; carries = C; extends = extends_refl σ }
@@ -138,27 +139,63 @@ decrypted_anew vs (enc w l) k p new n e = go (same l k) new e
     go true new e = true≢false (sym (below_means_present w vs p.0) ∙ new)
     go false new e = let z : ◌≡◌ {A = ℕ} 0 1 = cc in omega arith
 
-module _ {σ : State} {t ks gs u : List ℕ} {c : Counts} {a : Interned} {r : Outcome} (C : Carries σ t ks gs) (few : FewAtoms σ)
-    (count : c ≡ counts_of σ) (taken : r ≡ took_of c a) where
-  pub encrypts : {v w : Value} → Appeared (enc v w) σ.world.rows a t u → Performs σ (appear (room_of t ks) (enc v w) σ) r u ks gs
-  encrypts A =
-      rw taken
-      (appears (room_of t ks) refl C count A (λ new n h e. let z : ◌≡◌ {A = ℕ} 0 1 = cc in omega arith) (λ there. few) (omega arith))
+-- no operation gives an atom that is yet to be made
+computed_anew : {vs : List Value} → RowsOf vs → (o : Operation) (x y : ℕ) → OperandsBelow o x y (length vs)
+    → present (compute o (operands o (value_at vs x) (value_at vs y))) vs ≡ false
+    → (n : ℕ) → fresh n ≡ compute o (operands o (value_at vs x) (value_at vs y)) → ⊥
+computed_anew R Encrypt x y h new n e = let z : ◌≡◌ {A = ℕ} 0 1 = cc in omega arith
+computed_anew {vs} R Decrypt x y h new n e = decrypted_anew vs (value_at vs x) (value_at vs y) (parts_at R x h.0) new n e
+computed_anew R (Derive l) x y h new n e = let z : ◌≡◌ {A = ℕ} 0 1 = cc in omega arith
 
-  pub derives : {l : ℕ} {w : Value} → Appeared (div l w) σ.world.rows a t u → Performs σ (appear (room_of t ks) (div l w) σ) r u ks gs
-  derives A =
-      rw taken
-      (appears (room_of t ks) refl C count A (λ new n h e. let z : ◌≡◌ {A = ℕ} 0 1 = cc in omega arith) (λ there. few) (omega arith))
+-- ---- what the code tells of a row that a value got, or did not get
 
-  pub decrypts : (x : ℕ) (w : Value) → x < c.rows → Appeared (decrypt (value_at σ.world.rows x) w) σ.world.rows a t u
-      → Performs σ (appear (room_of t ks) (decrypt (value_at σ.world.rows x) w) σ) r u ks gs
-  decrypts x w h A =
-      let within : x < length σ.world.rows = omega (arith, same_rows count) in
-      rw taken
-      (appears (room_of t ks) refl C count A
-      (λ new n l e. decrypted_anew σ.world.rows (value_at σ.world.rows x) w (parts_at C.rows_held.rows x within) new n e)
-      (λ there. few)
-      (omega arith))
+abbrev with_rows : ℕ → Counts → Counts
+with_rows n c = record { rows = n; keys = c.keys; atoms = c.atoms; guards = c.guards }
+
+abbrev rowed : Option ℕ → Result ℕ Halt
+rowed r = ok_or r (halt.Full Rows)
+
+-- how many rows there are then
+abbrev grown : ℕ → Interned → ℕ
+grown n (Found i) = n
+grown n (Added i) = n + 1
+grown n NoRoom = n
+
+rows_grown : (len : ℕ) (v : Value) (vs : List Value) → length (rows_in len v vs) ≡ grown (length vs) (answer_in len v vs)
+unfolding answer_in rows_in
+rows_grown len v vs = go (present v vs) (ltb (length vs) len)
+  where
+    go : (b c : Bool) → length (cond b vs (cond c (vs ++ v ∷ []) vs))
+        ≡ grown (length vs) (cond b (Found (row_of v vs)) (cond c (Added (length vs)) NoRoom))
+    go true c = refl
+    go false true = length-append vs (v ∷ [])
+    go false false = refl
+
+row_taken : (c : Counts) (r : Option ℕ) (n : ℕ) → n ≡ grown c.rows (interned_told r c.rows n)
+    → outcome_told (rowed r) (with_rows n c) ≡ took_of c (interned_told r c.rows n)
+row_taken c None n e = ap (λ m. Full 32 (with_rows m c)) e
+row_taken c (Some i) n e = go (ltb c.rows n) e
+  where
+    go : (b : Bool) → n ≡ grown c.rows (cond b (Added i) (Found i)) → Gave (with_rows n c) i ≡ took_of c (cond b (Added i) (Found i))
+    go true e = ap (λ m. Gave (with_rows m c) i) e
+    go false e = ap (λ m. Gave (with_rows m c) i) e
+
+pub row_told : {v : Value} {vs : List Value} {t u : List ℕ} (c : Counts) (r : Option ℕ) (n : ℕ) → c.rows ≡ length vs
+    → n ≡ length (rows_in (length t) v vs) → Appeared v vs (interned_told r c.rows n) t u
+    → outcome_told (rowed r) (with_rows n c) ≡ took_of c (interned_told r c.rows n)
+row_told {v} {vs} {t} c r n count rows A =
+    row_taken c r n (rows ∙ rows_grown (length t) v vs ∙ ap₂ grown (sym count) (sym A.answer))
+
+pub computes : {σ : State} {t ks gs u : List ℕ} {c : Counts} {a : Interned} {r : Outcome} → Carries σ t ks gs → FewAtoms σ → c ≡ counts_of σ
+    → (o : Operation) (x y : ℕ) → OperandsBelow o x y c.rows → r ≡ took_of c a
+    → Appeared (compute o (operands o (value_at σ.world.rows x) (value_at σ.world.rows y))) σ.world.rows a t u
+    → Performs σ (appear (room_of t ks) (compute o (operands o (value_at σ.world.rows x) (value_at σ.world.rows y))) σ) r u ks gs
+computes {σ} {t} {ks} C few count o x y below taken A =
+    rw taken
+    (appears (room_of t ks) refl C count A
+    (λ new n h. computed_anew C.rows_held.rows o x y (rw (same_rows count) at below) new n)
+    (λ there. few)
+    (omega arith))
 
 -- ---- a new atom
 
@@ -220,6 +257,17 @@ module _ {σ : State} {t ks gs u : List ℕ} {r : Outcome} (C : Carries σ t ks 
         carries = P.carries;
         extends = extends_trans (extends_atom σ) P.extends;
       }
+
+-- what the code tells of the atom's row
+pub atom_told : (len : ℕ) (c : Counts) (r : Option ℕ) (n : ℕ) → NextPlace len c.rows r n
+    → outcome_told (rowed r) (with_rows n (one_atom c)) ≡ atom_of len c
+unfolding atom_of
+atom_told len c r n N = go (dec_lt c.rows len)
+  where
+    go : Dec (c.rows < len) → outcome_told (rowed r) (with_rows n (one_atom c))
+        ≡ cond (ltb c.rows len) (Gave (one_row (one_atom c)) c.rows) (Full 32 (one_atom c))
+    go (yes h) = rw (lt-ltb c.rows len h, (N.with_room h).0, (N.with_room h).1)
+    go (no h) = let w = N.without (omega arith) in rw (le-ltb c.rows len (omega arith), w.0, w.1)
 
 pub makes_atom : {σ : State} {t ks gs u : List ℕ} {r : Outcome} {c : Counts} (ρ : Room) → ρ.rows ≡ at_most (length t) → Carries σ t ks gs
     → FewAtoms σ → c ≡ counts_of σ → MakesAtom c r t u → Performs σ (new_atom ρ σ) r u ks gs

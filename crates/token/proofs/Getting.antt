@@ -26,7 +26,7 @@ use Rattle.keys.specs.declared.Found.TheVariants.{Key, Missing}
 use Rattle.token.specs.Carried.{counts_of, FewAtoms, Carries, Performs}
 use Rattle.token.specs.Numbers.{key_number, got_of, get_of}
 use Rattle.token.specs.declared.Counts.{Counts}
-use Rattle.token.specs.declared.Outcome.TheVariants.{Gave, Stopped}
+use Rattle.token.specs.Outcome.{Gave, Stopped}
 use Rattle.token.proofs.Growing.{no_key, same_rows, get_d_map_within}
 use Rattle.token.proofs.Undoing.{extends_refl, first_keys}
 use Rattle.token.proofs.Appearing.{stops_as_it_is, appears_again}
@@ -127,12 +127,6 @@ module _ {σ : State} {t ks gs : List ℕ} (C : Carries σ t ks gs) where
             (record { answer = refl; has_row = there; atoms_rowed = few; carries = C; extends = extends_refl σ })
         go false = stops_as_it_is C few refl
 
-    got : (x : ℕ) → x < length σ.world.rows → Performs σ (get ρ s (value_at σ.world.rows x) σ) (get_of ks (counts_of σ) s x) t ks gs
+    pub gets : (x : ℕ) → x < length σ.world.rows → Performs σ (get ρ s (value_at σ.world.rows x) σ) (get_of ks (counts_of σ) s x) t ks gs
     unfolding get get_of stored_of
-    got x b = rw (place_found x b) (got_from (place_of (value_at σ.world.rows x) σ.token.stored) _ refl)
-
-  pub gets : {c : Counts} → FewAtoms σ → c ≡ counts_of σ → (ρ : Room) (s : Step) (x : ℕ) (w : Value) → x < c.rows → s.op ≡ 1
-      → Performs σ (perform ρ (op_of s) s (value_at σ.world.rows x) w σ) (get_of ks c s x) t ks gs
-  gets {c} few count ρ s x w h op =
-      subst (λ n. Performs σ (perform ρ (get_or (ops s.t) n Unknown) s (value_at σ.world.rows x) w σ) (get_of ks c s x) t ks gs) (sym op)
-      (rw count (got few ρ s x (omega (arith, same_rows count))))
+    gets x b = rw (place_found x b) (got_from (place_of (value_at σ.world.rows x) σ.token.stored) _ refl)

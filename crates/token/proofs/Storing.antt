@@ -16,8 +16,7 @@ use Rattle.values.proofs.Appeared.{HasRow as InRow}
 use Rattle.token.specs.Carried.{room_of, counts_of, FewAtoms, Carries, Extends, Performs}
 use Rattle.token.specs.Numbers.{MakesAtom, MakesHandle, one_key, key_number, guards_with, Keeps}
 use Rattle.token.specs.declared.Counts.{Counts}
-use Rattle.token.specs.declared.Outcome.{Outcome}
-use Rattle.token.specs.declared.Outcome.TheVariants.{Gave, Full}
+use Rattle.token.specs.Outcome.{Outcome, Gave, Full}
 use Rattle.token.proofs.Growing.{same_rows, same_keys, in_row_at, carries_key, carries_guarded}
 use Rattle.token.proofs.Chaining.{row_later, Stops, stops, Went, went, goes_on}
 use Rattle.token.proofs.Appearing.{full_as_it_is, makes_atom, atom_given}

@@ -10,8 +10,7 @@ use Rattle.keys.specs.Stored.{stored_of}
 use Rattle.keys.specs.declared.Found.{Found as FoundKey}
 use Rattle.keys.specs.declared.Found.TheVariants.{Key, Missing}
 use Rattle.token.specs.declared.Counts.{Counts}
-use Rattle.token.specs.declared.Outcome.{Outcome}
-use Rattle.token.specs.declared.Outcome.TheVariants.{Gave, Stopped, Full}
+use Rattle.token.specs.Outcome.{Outcome, Gave, Stopped, Full}
 
 -- ---- counts with one more
 
