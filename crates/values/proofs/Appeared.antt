@@ -9,8 +9,7 @@ use lib.Dec.{ltb}
 use lib.ListN.{length, length-append}
 use Rattle.model.specs.Value.{Value, row_of, present}
 use Rattle.values.specs.Holds.{answer_in, rows_in, Appeared}
-use Rattle.values.specs.declared.Interned.{Interned}
-use Rattle.values.specs.declared.Interned.TheVariants.{Found, Added, NoRoom}
+use Rattle.values.specs.Interned.{Interned, Found, Added, NoRoom}
 use Rattle.values.proofs.Present.{present_means_below, below_means_present, row_added}
 
 -- Found i: the value was there, in row i
