@@ -125,7 +125,8 @@ fn intern(rows: &mut Filled<'_>, row: Row) -> Option<usize>
 pub fn appear_const(rows: &mut Filled<'_>, k: usize) -> Option<usize>
     requires { (rows.old.len ≤ length rows.old.table.now) × (k < 65536) }
     ensures same_table { SameTable rows.old rows.new }
-    ensures appears { (vs : List Value) → Holds rows.old.table.now vs → rows.old.len ≡ length vs → AppearedIn (const k) vs result rows.old rows.new }
+    ensures appears { (vs : List Value) → Holds rows.old.table.now vs → rows.old.len ≡ length vs
+        → AppearedIn (const k) vs result rows.old rows.new }
 {
     intern(rows, Row::Const(k))
 }
@@ -134,7 +135,8 @@ pub fn appear_const(rows: &mut Filled<'_>, k: usize) -> Option<usize>
 pub fn appear_new(rows: &mut Filled<'_>, k: usize) -> Option<usize>
     requires { (rows.old.len ≤ length rows.old.table.now) × (k < 65536) }
     ensures same_table { SameTable rows.old rows.new }
-    ensures appears { (vs : List Value) → Holds rows.old.table.now vs → rows.old.len ≡ length vs → present (fresh k) vs ≡ false → AppearedIn (fresh k) vs result rows.old rows.new }
+    ensures appears { (vs : List Value) → Holds rows.old.table.now vs → rows.old.len ≡ length vs → present (fresh k) vs ≡ false
+        → AppearedIn (fresh k) vs result rows.old rows.new }
 {
     let x = Row::Fresh(k).code();
     rows.push(x)
@@ -144,7 +146,8 @@ pub fn appear_new(rows: &mut Filled<'_>, k: usize) -> Option<usize>
 pub fn encrypt_rows(rows: &mut Filled<'_>, a: usize, b: usize) -> Option<usize>
     requires { (rows.old.len ≤ length rows.old.table.now) × (rows.old.len ≤ 65536) × (a < rows.old.len) × (b < rows.old.len) }
     ensures same_table { SameTable rows.old rows.new }
-    ensures appears { (vs : List Value) → Holds rows.old.table.now vs → rows.old.len ≡ length vs → AppearedIn (enc (value_at vs a) (value_at vs b)) vs result rows.old rows.new }
+    ensures appears { (vs : List Value) → Holds rows.old.table.now vs → rows.old.len ≡ length vs
+        → AppearedIn (enc (value_at vs a) (value_at vs b)) vs result rows.old rows.new }
 {
     intern(rows, Row::Enc(a, b))
 }
@@ -163,7 +166,8 @@ fn undo(x: u64, b: usize) -> Option<usize>
 pub fn decrypt_rows(rows: &mut Filled<'_>, a: usize, b: usize) -> Option<usize>
     requires { (rows.old.len ≤ length rows.old.table.now) × (rows.old.len ≤ 65536) × (a < rows.old.len) × (b < rows.old.len) }
     ensures same_table { SameTable rows.old rows.new }
-    ensures appears { (vs : List Value) → Holds rows.old.table.now vs → rows.old.len ≡ length vs → AppearedIn (decrypt (value_at vs a) (value_at vs b)) vs result rows.old rows.new }
+    ensures appears { (vs : List Value) → Holds rows.old.table.now vs → rows.old.len ≡ length vs
+        → AppearedIn (decrypt (value_at vs a) (value_at vs b)) vs result rows.old rows.new }
 {
     if let Some(v) = undo(rows.table[a], b) {
         return Some(v);
@@ -175,7 +179,8 @@ pub fn decrypt_rows(rows: &mut Filled<'_>, a: usize, b: usize) -> Option<usize>
 pub fn derive_row(rows: &mut Filled<'_>, label: u8, b: usize) -> Option<usize>
     requires { (rows.old.len ≤ length rows.old.table.now) × (rows.old.len ≤ 65536) × (b < rows.old.len) }
     ensures same_table { SameTable rows.old rows.new }
-    ensures appears { (vs : List Value) → Holds rows.old.table.now vs → rows.old.len ≡ length vs → AppearedIn (div label (value_at vs b)) vs result rows.old rows.new }
+    ensures appears { (vs : List Value) → Holds rows.old.table.now vs → rows.old.len ≡ length vs
+        → AppearedIn (div label (value_at vs b)) vs result rows.old rows.new }
 {
     intern(rows, Row::Div(usize::from(label), b))
 }
