@@ -1,10 +1,10 @@
 -- A lent table with its length, before a call and after it.
-use Rattle.std.specs.Prelude.{ℕ, ◌+◌, ◌≡◌, Option, Some, None, set}
+use Rattle.std.specs.Prelude.{ℕ, ◌+◌, ◌≡◌, Option, Some, None, length, set}
 use Rattle.values.specs.declared.Filled.{Filled}
 
--- the reference is the one that was lent
+-- the reference is the one that was lent, and the table behind it is as long as it was
 abbrev pub SameTable : Filled → Filled → Type 0
-SameTable before exit = exit.table.ghost_name ≡ before.table.ghost_name
+SameTable before exit = (exit.table.ghost_name ≡ before.table.ghost_name) × (length exit.table.now ≡ length before.table.now)
 
 -- x stands in the next place, and the answer is that place
 pub record Pushed (before : Filled) (x : ℕ) (r : Option ℕ) (exit : Filled) : Type 0 where

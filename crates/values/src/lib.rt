@@ -137,6 +137,8 @@ pub fn appear_new(rows: &mut Filled<'_>, k: usize) -> Option<usize>
     ensures same_table { SameTable rows.old rows.new }
     ensures appears { (vs : List Value) → Holds rows.old.table.now vs → rows.old.len ≡ length vs → present (fresh k) vs ≡ false
         → AppearedIn (fresh k) vs result rows.old rows.new }
+    ensures with_room { rows.old.len < length rows.old.table.now → Pushed rows.old (packed 2 0 k) result rows.new }
+    ensures full { length rows.old.table.now ≤ rows.old.len → NotPushed rows.old result rows.new }
 {
     let x = Row::Fresh(k).code();
     rows.push(x)
