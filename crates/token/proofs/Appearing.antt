@@ -18,10 +18,10 @@ use Rattle.model.specs.Token.{State, Room, at_most, gave, ended, stopped, full, 
 use Rattle.std.specs.Prelude.{Option, Some, None, Result}
 use Rattle.std.specs.Option.{ok_or}
 use Rattle.model.specs.Tables.{PartsBelow, Rows as RowsOf}
-use Rattle.values.specs.Filled.{interned_told, NextPlace}
-use Rattle.values.specs.Holds.{answer_in, rows_in, Appeared}
-use Rattle.values.specs.declared.Interned.{Interned}
-use Rattle.values.specs.declared.Interned.TheVariants.{Found, Added, NoRoom}
+use Rattle.values.specs.Filled.{Pushed, NotPushed}
+use Rattle.values.specs.declared.Filled.{Filled}
+use Rattle.values.specs.Holds.{answer_in, rows_in, Appeared, AppearedIn}
+use Rattle.values.specs.Interned.{Interned, Found, Added, NoRoom, interned_told, count_after}
 use Rattle.values.proofs.Present.{below_means_present, row_added}
 use Rattle.values.proofs.Rows.{row_at, present_at, parts_at}
 use Rattle.token.specs.Carried.{room_of, counts_of, FewAtoms, OperandsBelow, Carries, Extends, Performs}
@@ -155,36 +155,29 @@ with_rows n c = record { rows = n; keys = c.keys; atoms = c.atoms; guards = c.gu
 abbrev rowed : Option ℕ → Result ℕ Halt
 rowed r = ok_or r (halt.Full Rows)
 
--- how many rows there are then
-abbrev grown : ℕ → Interned → ℕ
-grown n (Found i) = n
-grown n (Added i) = n + 1
-grown n NoRoom = n
-
-rows_grown : (len : ℕ) (v : Value) (vs : List Value) → length (rows_in len v vs) ≡ grown (length vs) (answer_in len v vs)
+rows_grown : (len : ℕ) (v : Value) (vs : List Value) → length (rows_in len v vs) ≡ count_after (answer_in len v vs) (length vs)
 unfolding answer_in rows_in
 rows_grown len v vs = go (present v vs) (ltb (length vs) len)
   where
     go : (b c : Bool) → length (cond b vs (cond c (vs ++ v ∷ []) vs))
-        ≡ grown (length vs) (cond b (Found (row_of v vs)) (cond c (Added (length vs)) NoRoom))
+        ≡ count_after (cond b (Found (row_of v vs)) (cond c (Added (length vs)) NoRoom)) (length vs)
     go true c = refl
     go false true = length-append vs (v ∷ [])
     go false false = refl
 
-row_taken : (c : Counts) (r : Option ℕ) (n : ℕ) → n ≡ grown c.rows (interned_told r c.rows n)
+row_taken : (c : Counts) (r : Option ℕ) (n : ℕ) → n ≡ count_after (interned_told r c.rows n) c.rows
     → outcome_told (rowed r) (with_rows n c) ≡ took_of c (interned_told r c.rows n)
 row_taken c None n e = ap (λ m. Full 32 (with_rows m c)) e
 row_taken c (Some i) n e = go (ltb c.rows n) e
   where
-    go : (b : Bool) → n ≡ grown c.rows (cond b (Added i) (Found i)) → Gave (with_rows n c) i ≡ took_of c (cond b (Added i) (Found i))
+    go : (b : Bool) → n ≡ count_after (cond b (Added i) (Found i)) c.rows → Gave (with_rows n c) i ≡ took_of c (cond b (Added i) (Found i))
     go true e = ap (λ m. Gave (with_rows m c) i) e
     go false e = ap (λ m. Gave (with_rows m c) i) e
 
-pub row_told : {v : Value} {vs : List Value} {t u : List ℕ} (c : Counts) (r : Option ℕ) (n : ℕ) → c.rows ≡ length vs
-    → n ≡ length (rows_in (length t) v vs) → Appeared v vs (interned_told r c.rows n) t u
-    → outcome_told (rowed r) (with_rows n c) ≡ took_of c (interned_told r c.rows n)
-row_told {v} {vs} {t} c r n count rows A =
-    row_taken c r n (rows ∙ rows_grown (length t) v vs ∙ ap₂ grown (sym count) (sym A.answer))
+pub row_told : (c : Counts) {v : Value} {vs : List Value} {r : Option ℕ} {f g : Filled} → c.rows ≡ f.len → f.len ≡ length vs → AppearedIn v vs r f g
+    → outcome_told (rowed r) (with_rows g.len c) ≡ took_of c (interned_told r f.len g.len)
+row_told c {v} {vs} {r} {f} {g} rows count A =
+    rw (← rows) (row_taken c r g.len (A.counted ∙ rows_grown (length f.table.now) v vs ∙ ap₂ count_after (sym A.appeared.answer) (sym count) ∙ rw rows))
 
 pub computes : {σ : State} {t ks gs u : List ℕ} {c : Counts} {a : Interned} {r : Outcome} → Carries σ t ks gs → FewAtoms σ → c ≡ counts_of σ
     → (o : Operation) (x y : ℕ) → OperandsBelow o x y c.rows → r ≡ took_of c a
@@ -259,15 +252,15 @@ module _ {σ : State} {t ks gs u : List ℕ} {r : Outcome} (C : Carries σ t ks 
       }
 
 -- what the code tells of the atom's row
-pub atom_told : (len : ℕ) (c : Counts) (r : Option ℕ) (n : ℕ) → NextPlace len c.rows r n
-    → outcome_told (rowed r) (with_rows n (one_atom c)) ≡ atom_of len c
+pub atom_told : (c : Counts) {r : Option ℕ} {f g : Filled} {x : ℕ} → c.rows ≡ f.len → (f.len < length f.table.now → Pushed f x r g)
+    → (length f.table.now ≤ f.len → NotPushed f r g) → outcome_told (rowed r) (with_rows g.len (one_atom c)) ≡ atom_of (length f.table.now) c
 unfolding atom_of
-atom_told len c r n N = go (dec_lt c.rows len)
+atom_told c {r} {f} {g} rows with_room without_room = go (dec_lt f.len (length f.table.now))
   where
-    go : Dec (c.rows < len) → outcome_told (rowed r) (with_rows n (one_atom c))
-        ≡ cond (ltb c.rows len) (Gave (one_row (one_atom c)) c.rows) (Full 32 (one_atom c))
-    go (yes h) = rw (lt-ltb c.rows len h, (N.with_room h).0, (N.with_room h).1)
-    go (no h) = let w = N.without (omega arith) in rw (le-ltb c.rows len (omega arith), w.0, w.1)
+    go : Dec (f.len < length f.table.now) → outcome_told (rowed r) (with_rows g.len (one_atom c))
+        ≡ cond (ltb c.rows (length f.table.now)) (Gave (one_row (one_atom c)) c.rows) (Full 32 (one_atom c))
+    go (yes h) = let P = with_room h in rw (rows, lt-ltb f.len (length f.table.now) h, P.answer, P.used) refl
+    go (no h) = let P = without_room (omega arith) in rw (rows, le-ltb f.len (length f.table.now) (omega arith), P.answer, P.used) refl
 
 pub makes_atom : {σ : State} {t ks gs u : List ℕ} {r : Outcome} {c : Counts} (ρ : Room) → ρ.rows ≡ at_most (length t) → Carries σ t ks gs
     → FewAtoms σ → c ≡ counts_of σ → MakesAtom c r t u → Performs σ (new_atom ρ σ) r u ks gs

@@ -4,8 +4,7 @@ use Rattle.model.specs.Policy.{meets}
 use Rattle.model.specs.Value.{Value, fresh, present}
 use Rattle.model.specs.declared.Step.{Step}
 use Rattle.values.specs.Holds.{Holds, rows_in}
-use Rattle.values.specs.declared.Interned.{Interned}
-use Rattle.values.specs.declared.Interned.TheVariants.{Found, Added, NoRoom}
+use Rattle.values.specs.Interned.{Interned, Found, Added, NoRoom}
 use Rattle.keys.specs.Stored.{stored_of}
 use Rattle.keys.specs.declared.Found.{Found as FoundKey}
 use Rattle.keys.specs.declared.Found.TheVariants.{Key, Missing}

@@ -7,10 +7,10 @@ ghost use Rattle.std.specs.Prelude.{◌≡◌, List, ℕ, ◌≤◌, ◌<◌, le
 ghost use Rattle.model.specs.Step.{op_of};
 ghost use Rattle.model.specs.Value.{Value, value_at, compute, operands};
 ghost use Rattle.model.specs.Token.{State, appear, generate, store, perform};
-ghost use Rattle.values.specs.Holds.{Holds, Appeared, rows_in};
-ghost use Rattle.values.specs.Filled.{SameTable, interned_told};
+ghost use Rattle.values.specs.Holds.{Holds, AppearedIn};
+ghost use Rattle.values.specs.Filled.{SameTable};
 ghost use Rattle.token.specs.Outcome.{Gave, outcome_told, counts_in, SameTables, KeysKept};
-ghost use Rattle.token.specs.Carried.{counts_of, FewAtoms, Ready, OperandsBelow, Named, Extends, Tidy, room_in, CarriedIn, ReadyIn, PerformsIn};
+ghost use Rattle.token.specs.Carried.{counts_of, AtomsFit, OperandsBelow, Named, Extends, Tidy, room_in, CarriedIn, Stands, ReadyIn, PerformsIn};
 ghost use Rattle.token.specs.Numbers.{MakesAtom, MakesHandle, key_number, Keeps, get_of};
 
 use keys::Found;
@@ -55,13 +55,13 @@ fn key_code(h: usize, k: usize, t: u8) -> u64
 fn computed(rows: &mut Filled<'_>, operation: Operation, x: usize, y: usize) -> Option<usize>
     requires { (rows.old.len ≤ length rows.old.table.now) × (rows.old.len ≤ 65536) × OperandsBelow operation x y rows.old.len }
     ensures same_table { SameTable rows.old rows.new }
-    ensures appeared { (vs : List Value) → Holds rows.old.table.now vs → rows.old.len ≡ length vs → Appeared (compute operation (operands operation (value_at vs x) (value_at vs y))) vs (interned_told result rows.old.len rows.new.len) rows.old.table.now rows.new.table.now }
-    ensures len { (vs : List Value) → Holds rows.old.table.now vs → rows.old.len ≡ length vs → rows.new.len ≡ length (rows_in (length rows.old.table.now) (compute operation (operands operation (value_at vs x) (value_at vs y))) vs) }
+    ensures appears { (vs : List Value) → Holds rows.old.table.now vs → rows.old.len ≡ length vs
+        → AppearedIn (compute operation (operands operation (value_at vs x) (value_at vs y))) vs result rows.old rows.new }
 {
     match operation {
-        Operation::Encrypt => values::f_encrypt_rows(rows, x, y),
-        Operation::Decrypt => values::f_decrypt_rows(rows, x, y),
-        Operation::Derive(label) => values::f_derive_row(rows, usize::from(label), y),
+        Operation::Encrypt => values::encrypt_rows(rows, x, y),
+        Operation::Decrypt => values::decrypt_rows(rows, x, y),
+        Operation::Derive(label) => values::derive_row(rows, label, y),
     }
 }
 
@@ -79,22 +79,24 @@ impl Token<'_> {
 
     // One more atom. It has no row yet, so it gets the next one; it is counted also where there is no room for its row.
     fn new_atom(&mut self) -> Result<usize, Halt>
-        requires { (self.old.rows.len ≤ length self.old.rows.table.now) × (self.old.rows.len ≤ 4096) × (self.old.atoms ≤ self.old.rows.len) }
+        requires { AtomsFit self.old }
         ensures same_tables { SameTables self.old self.new }
         ensures keys_kept { KeysKept self.old self.new }
-        ensures made { MakesAtom (counts_in self.old) (outcome_told result (counts_in self.new)) self.old.rows.table.now self.new.rows.table.now }
+        ensures made { MakesAtom (counts_in self.old) (outcome_told result (counts_in self.new))
+            self.old.rows.table.now self.new.rows.table.now }
     {
         let k = self.atoms;
         self.atoms = k + 1;
-        values::f_appear_new(&mut self.rows, k).ok_or(Halt::Full(Full::Rows))
+        values::appear_new(&mut self.rows, k).ok_or(Halt::Full(Full::Rows))
     }
 
     // An atom for a handle, where there is a place for the key that it is to get: ending 33 comes before ending 32.
     fn new_handle(&mut self) -> Result<usize, Halt>
-        requires { (self.old.rows.len ≤ length self.old.rows.table.now) × (self.old.rows.len ≤ 4096) × (self.old.atoms ≤ self.old.rows.len) }
+        requires { AtomsFit self.old }
         ensures same_tables { SameTables self.old self.new }
         ensures keys_kept { KeysKept self.old self.new }
-        ensures made { MakesHandle (length self.old.keys.table.now) (counts_in self.old) (outcome_told result (counts_in self.new)) self.old.rows.table.now self.new.rows.table.now }
+        ensures made { MakesHandle (length self.old.keys.table.now) (counts_in self.old) (outcome_told result (counts_in self.new))
+            self.old.rows.table.now self.new.rows.table.now }
     {
         if self.keys.len < self.keys.table.len() {
             return self.new_atom();
@@ -104,18 +106,16 @@ impl Token<'_> {
 
     // The value in row k is kept under the handle in row h, at the next place, and is guarded where that is asked for. Gives the handle.
     fn keep(&mut self, h: usize, k: usize, t: u8, guarded: bool) -> usize
-        requires { (self.old.keys.len < length self.old.keys.table.now) × (self.old.guards.len < length self.old.guards.table.now) × (h < 65536) × (k < 65536) }
+        requires { (self.old.keys.len < length self.old.keys.table.now) × (self.old.guards.len < length self.old.guards.table.now)
+            × (h < 65536) × (k < 65536) }
         ensures same_tables { SameTables self.old self.new }
         ensures rows_kept { self.new.rows.table.now ≡ self.old.rows.table.now }
-        ensures kept { Keeps (counts_in self.old) h k t guarded (Gave (counts_in self.new) result) self.old.keys.table.now self.old.guards.table.now self.new.keys.table.now self.new.guards.table.now }
+        ensures kept { Keeps (counts_in self.old) h k t guarded (Gave (counts_in self.new) result)
+            self.old.keys.table.now self.old.guards.table.now self.new.keys.table.now self.new.guards.table.now }
     {
-        let place = self.keys.len;
-        self.keys.table[place] = key_code(h, k, t);
-        self.keys.len = place + 1;
+        self.keys.push(key_code(h, k, t));
         if guarded {
-            let last = self.guards.len;
-            self.guards.table[last] = k as u64;
-            self.guards.len = last + 1;
+            self.guards.push(k as u64);
         }
         h
     }
@@ -124,7 +124,7 @@ impl Token<'_> {
     fn generate(&mut self, t: u8) -> Result<usize, Halt>
         requires { ReadyIn self.old }
         ensures same_tables { SameTables self.old self.new }
-        ensures performed { (σ : State) → CarriedIn σ self.old → FewAtoms σ → counts_in self.old ≡ counts_of σ → PerformsIn σ (generate (room_in self.old) t σ) result self.new }
+        ensures performed { (σ : State) → Stands σ self.old → PerformsIn σ (generate (room_in self.old) t σ) result self.new }
     {
         let h = self.new_handle()?;
         let k = self.new_atom()?;
@@ -135,7 +135,8 @@ impl Token<'_> {
     fn store(&mut self, x: usize, t: u8) -> Result<usize, Halt>
         requires { ReadyIn self.old × (x < self.old.rows.len) }
         ensures same_tables { SameTables self.old self.new }
-        ensures performed { (σ : State) → CarriedIn σ self.old → FewAtoms σ → counts_in self.old ≡ counts_of σ → PerformsIn σ (store (room_in self.old) (value_at σ.world.rows x) t σ) result self.new }
+        ensures performed { (σ : State) → Stands σ self.old
+            → PerformsIn σ (store (room_in self.old) (value_at σ.world.rows x) t σ) result self.new }
     {
         let h = self.new_handle()?;
         Ok(self.keep(h, x, t, t / 2 % 2 == 1))
@@ -161,7 +162,9 @@ impl Token<'_> {
     pub fn perform_step(&mut self, s: Step, x: usize, y: usize) -> Result<usize, Halt>
         requires { ReadyIn self.old × Named s x y self.old.rows.len }
         ensures same_tables { SameTables self.old self.new }
-        ensures performed { (σ : State) → CarriedIn σ self.old → FewAtoms σ → counts_in self.old ≡ counts_of σ → PerformsIn σ (perform (room_in self.old) (op_of s) s (value_at σ.world.rows x) (value_at σ.world.rows y) σ) result self.new }
+        ensures performed { (σ : State) → Stands σ self.old
+            → PerformsIn σ (perform (room_in self.old) (op_of s) s (value_at σ.world.rows x) (value_at σ.world.rows y) σ)
+            result self.new }
     {
         match s.op() {
             Op::Return => Err(Halt::Ended(x)),
@@ -177,18 +180,23 @@ impl Token<'_> {
     pub fn compute(&mut self, operation: Operation, x: usize, y: usize) -> Result<usize, Halt>
         requires { ReadyIn self.old × OperandsBelow operation x y self.old.rows.len }
         ensures same_tables { SameTables self.old self.new }
-        ensures performed { (σ : State) → CarriedIn σ self.old → FewAtoms σ → counts_in self.old ≡ counts_of σ → PerformsIn σ (appear (room_in self.old) (compute operation (operands operation (value_at σ.world.rows x) (value_at σ.world.rows y))) σ) result self.new }
+        ensures performed { (σ : State) → Stands σ self.old
+            → PerformsIn σ
+            (appear (room_in self.old) (compute operation (operands operation (value_at σ.world.rows x) (value_at σ.world.rows y))) σ)
+            result self.new }
     {
         computed(&mut self.rows, operation, x, y).ok_or(Halt::Full(Full::Rows))
     }
 
     // Back to the counts of an earlier state of the same line: what the line has added since is made unused again.
     pub fn undo_line(&mut self, earlier: Counts)
-        requires { (earlier.rows ≤ self.old.rows.len) × (self.old.rows.len ≤ length self.old.rows.table.now) × (earlier.keys ≤ self.old.keys.len) × (self.old.keys.len ≤ length self.old.keys.table.now) }
+        requires { (earlier.rows ≤ self.old.rows.len) × (self.old.rows.len ≤ length self.old.rows.table.now)
+            × (earlier.keys ≤ self.old.keys.len) × (self.old.keys.len ≤ length self.old.keys.table.now) }
         ensures same_tables { SameTables self.old self.new }
         ensures counted { counts_in self.new ≡ earlier }
         ensures guards_kept { self.new.guards.table.now ≡ self.old.guards.table.now }
-        ensures undone { (σ σ' : State) → Tidy σ → CarriedIn σ' self.old → Extends σ σ' → earlier ≡ counts_of σ → counts_in self.old ≡ counts_of σ' → CarriedIn σ self.new }
+        ensures undone { (σ σ' : State) → Tidy σ → CarriedIn σ' self.old → Extends σ σ' → earlier ≡ counts_of σ
+            → counts_in self.old ≡ counts_of σ' → CarriedIn σ self.new }
     {
         self.rows.truncate(earlier.rows);
         self.keys.truncate(earlier.keys);

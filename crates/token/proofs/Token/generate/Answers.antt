@@ -11,9 +11,9 @@ use Rattle.token.proofs.Token.generate.Goals as goal
 pub returns-in_err-h-clause-performed : goal.returns-in_err-h-clause-performed
 returns-in_err-h-clause-performed c =
     let kept = c.new_handle.ensures.keys_kept in
-    λ σ C few count.
+    λ σ S.
     let told = err_from_is_err_and c.from_residual.result c.from_residual.ensures.1 in
-    rw (told.1, told.2, kept.0, kept.1) (generate_stops C few count c.in_err-h.ensures.made _ (halts _ _))
+    rw (told.1, told.2, kept.0, kept.1) (generate_stops S.carries S.few_atoms S.counts_are c.in_err-h.ensures.made _ (halts _ _))
 
 pub new_atom-requires : goal.new_atom-requires
 new_atom-requires c =
@@ -27,10 +27,10 @@ pub returns-in_err-k-clause-performed : goal.returns-in_err-k-clause-performed
 returns-in_err-k-clause-performed c =
     let kept = c.new_handle.ensures.keys_kept in
     let kept_again = c.new_atom.ensures.keys_kept in
-    λ σ C few count.
+    λ σ S.
     let told = err_from_is_err_and c.from_residual-in_err-k.result c.from_residual-in_err-k.ensures.1 in
     rw (told.1, told.2, kept_again.0, kept_again.1, kept.0, kept.1)
-    (generate_stops_later C few count c.in_ok-h.ensures.made refl c.in_err-k.ensures.made _ (halts _ _))
+    (generate_stops_later S.carries S.few_atoms S.counts_are c.in_ok-h.ensures.made refl c.in_err-k.ensures.made _ (halts _ _))
 
 pub keep-requires : goal.keep-requires
 keep-requires c =
@@ -48,7 +48,7 @@ returns-clause-performed c =
     let byte = c.ranges.t in
     let kept = c.new_handle.ensures.keys_kept in
     let kept_again = c.new_atom.ensures.keys_kept in
-    λ σ C few count.
+    λ σ S.
     rw c.keep.ensures.rows_kept
-    (generates C few count c.in_ok-h.ensures.made refl c.in_ok-k.ensures.made (omega arith) refl
+    (generates S.carries S.few_atoms S.counts_are c.in_ok-h.ensures.made refl c.in_ok-k.ensures.made (omega arith) refl
     (rw (kept_again.0, kept_again.1, kept.0, kept.1) at c.keep.ensures.kept))

@@ -9,13 +9,13 @@ use Rattle.token.proofs.Token.perform_step.Goals as goal
 pub returns-in-Return-clause-performed : goal.returns-in-Return-clause-performed
 returns-in-Return-clause-performed c =
     let named = rw (← c.in-Return.ensures) at c.requires.1.a_named in
-    λ σ C few count. rw (← c.in-Return.ensures) (ends_with_row C few count _ named)
+    λ σ S. rw (← c.in-Return.ensures) (ends_with_row S.carries S.few_atoms S.counts_are _ named)
 
 pub returns-in-Get-clause-performed : goal.returns-in-Get-clause-performed
 returns-in-Get-clause-performed c =
     let named = rw (← c.in-Get.ensures) at c.requires.1.a_named in
-    λ σ C few count.
-    rw (← c.in-Get.ensures, c.get.ensures, count) (gets C few _ c.args.s c.args.x (omega (arith, same_rows count)))
+    λ σ S.
+    rw (← c.in-Get.ensures, c.get.ensures, S.counts_are) (gets S.carries S.few_atoms _ c.args.s c.args.x (omega (arith, same_rows S.counts_are)))
 
 pub returns-in-Unknown-clause-performed : goal.returns-in-Unknown-clause-performed
-returns-in-Unknown-clause-performed c = λ σ C few count. rw (← c.in-Unknown.ensures) (stops_as_it_is C few count)
+returns-in-Unknown-clause-performed c = λ σ S. rw (← c.in-Unknown.ensures) (stops_as_it_is S.carries S.few_atoms S.counts_are)

@@ -11,9 +11,9 @@ use Rattle.token.proofs.Token.store.Goals as goal
 pub returns-in_err-h-clause-performed : goal.returns-in_err-h-clause-performed
 returns-in_err-h-clause-performed c =
     let kept = c.new_handle.ensures.keys_kept in
-    λ σ C few count.
+    λ σ S.
     let told = err_from_is_err_and c.from_residual.result c.from_residual.ensures.1 in
-    rw (told.1, told.2, kept.0, kept.1) (store_stops C few count c.in_err-h.ensures.made _ _ (halts _ _))
+    rw (told.1, told.2, kept.0, kept.1) (store_stops S.carries S.few_atoms S.counts_are c.in_err-h.ensures.made _ _ (halts _ _))
 
 pub keep-requires : goal.keep-requires
 keep-requires c =
@@ -28,6 +28,6 @@ pub returns-clause-performed : goal.returns-clause-performed
 returns-clause-performed c =
     let byte = c.ranges.t in
     let kept = c.new_handle.ensures.keys_kept in
-    λ σ C few count.
+    λ σ S.
     rw c.keep.ensures.rows_kept
-    (stores C few count c.in_ok-h.ensures.made refl (omega arith) c.requires.1 (rw (kept.0, kept.1) at c.keep.ensures.kept))
+    (stores S.carries S.few_atoms S.counts_are c.in_ok-h.ensures.made refl (omega arith) c.requires.1 (rw (kept.0, kept.1) at c.keep.ensures.kept))
