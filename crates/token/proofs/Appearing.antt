@@ -31,7 +31,7 @@ use Rattle.token.specs.declared.Halt.{Halt}
 use Rattle.token.specs.declared.Halt.TheVariants as halt
 use Rattle.token.specs.Outcome.{Outcome, Gave, Ended, Stopped, Full, outcome_told}
 use Rattle.token.proofs.Growing.{same_rows, carries_in, carries_atom, carries_row}
-use Rattle.token.proofs.Undoing.{extends_refl, extends_trans}
+use Rattle.token.proofs.Undoing.{extends_same, extends_refl, extends_trans}
 
 -- ---- steps that change nothing
 
@@ -195,18 +195,6 @@ computes {σ} {t} {ks} C few count o x y below taken A =
 abbrev counted : State → State
 counted σ = record { world = with_atom σ.world; token = σ.token }
 
-extends_atom : (σ : State) → Extends σ (counted σ)
-extends_atom σ =
-    let E = extends_refl σ in
-    record {
-      new_rows = E.new_rows;
-      new_keys = E.new_keys;
-      new_guarded = E.new_guarded;
-      rows_grown = E.rows_grown;
-      keys_grown = E.keys_grown;
-      guarded_grown = E.guarded_grown;
-    }
-
 counts_atom : (σ : State) → one_atom (counts_of σ) ≡ counts_of (counted σ)
 counts_atom σ = λ i. record {
   rows = length σ.world.rows;
@@ -248,7 +236,7 @@ module _ {σ : State} {t ks gs u : List ℕ} {r : Outcome} (C : Carries σ t ks 
         has_row = P.has_row;
         atoms_rowed = P.atoms_rowed;
         carries = P.carries;
-        extends = extends_trans (extends_atom σ) P.extends;
+        extends = extends_trans (extends_same σ (counted σ) refl refl refl) P.extends;
       }
 
 -- what the code tells of the atom's row

@@ -8,6 +8,7 @@ use native.Mathlib.Omega.{arith}
 use borrow.Author.Tests.{eq-eqb, ne_eqb, ltb-true}
 use lib.Dec.{eqb, ltb}
 use lib.ListN.{length, get_or, take}
+use Rattle.std.proofs.lemmas.List.{get_or-map, take-map}
 use lib.Seq.{get_or-take}
 use Rattle.model.specs.Basics.{index_by}
 use Rattle.model.specs.Step.{ops, op_of}
@@ -27,7 +28,7 @@ use Rattle.token.specs.Carried.{counts_of, FewAtoms, Carries, Performs}
 use Rattle.token.specs.Numbers.{key_number, got_of, get_of}
 use Rattle.token.specs.declared.Counts.{Counts}
 use Rattle.token.specs.Outcome.{Gave, Stopped}
-use Rattle.token.proofs.Growing.{no_key, same_rows, get_d_map_within}
+use Rattle.token.proofs.Growing.{no_key}
 use Rattle.token.proofs.Undoing.{extends_refl, first_keys}
 use Rattle.token.proofs.Appearing.{stops_as_it_is, appears_again}
 
@@ -54,11 +55,6 @@ same_by_row : {vs : List Value} → Rows vs → (x : ℕ) → x < length vs → 
 same_by_row {vs} R x h w there =
     row_decides R x h w there (eqb x (row_of w vs)) (λ e. eq-eqb _ _ (sym e)) (λ d. ne_eqb _ _ (λ e. d (sym e)))
 
-take_of_map : {A B : Type 0} (f : A → B) (n : ℕ) (l : List A) → take n (map f l) ≡ map f (take n l)
-take_of_map f zero l = refl
-take_of_map f (suc n) [] = refl
-take_of_map f (suc n) (x ∷ xs) = ap (λ l. f x ∷ l) (take_of_map f n xs)
-
 module _ {σ : State} {t ks gs : List ℕ} (C : Carries σ t ks gs) where
   -- ---- the number of each stored key
 
@@ -70,7 +66,7 @@ module _ {σ : State} {t ks gs : List ℕ} (C : Carries σ t ks gs) where
     number_at =
         sym (get_or-take (length σ.token.stored) ks i 0 h)
         ∙ ap (λ l. get_or l i 0) (first_keys C)
-        ∙ get_d_map_within (key_code σ.world.rows) no_key 0 σ.token.stored i h
+        ∙ get_or-map (key_code σ.world.rows) σ.token.stored i no_key 0 h
 
     handle_at : handle_of (key_code σ.world.rows (key_at σ.token.stored i)) ≡ row_of (key_at σ.token.stored i).handle σ.world.rows
     unfolding key_code
@@ -97,7 +93,7 @@ module _ {σ : State} {t ks gs : List ℕ} (C : Carries σ t ks gs) where
       → index_by (eqb x) (take (length σ.token.stored) (map handle_of ks)) ≡ place_of (value_at σ.world.rows x) σ.token.stored
   place_found x b =
       ap (index_by (eqb x))
-      (take_of_map handle_of (length σ.token.stored) ks
+      (take-map handle_of (length σ.token.stored) ks
       ∙ ap (map handle_of) (first_keys C)
       ∙ map-map handle_of (key_code σ.world.rows) σ.token.stored)
       ∙ index_of_map no_key (λ k. handle_of (key_code σ.world.rows k)) (eqb x) (λ k. same k.handle (value_at σ.world.rows x)) σ.token.stored
