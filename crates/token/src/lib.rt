@@ -13,7 +13,6 @@ ghost use Rattle.token.specs.Outcome.{Gave, outcome_told, counts_in, SameTables,
 ghost use Rattle.token.specs.Carried.{counts_of, AtomsFit, OperandsBelow, Named, Extends, Tidy, room_in, CarriedIn, Stands, ReadyIn, PerformsIn};
 ghost use Rattle.token.specs.Numbers.{MakesAtom, MakesHandle, key_number, Keeps, get_of};
 
-use keys::Found;
 use model::{Full, Op, Operation, Step};
 use values::Filled;
 
@@ -147,14 +146,9 @@ impl Token<'_> {
         requires { (self.now.keys.len ≤ length self.now.keys.table.now) × (length self.now.keys.table.now ≤ 256) }
         ensures { outcome_told result (counts_in self.now) ≡ get_of self.now.keys.table.now (counts_in self.now) s x }
     {
-        match keys::stored(self.keys.table, self.keys.len, x) {
-            Found::Missing => Err(Halt::Stopped),
-            Found::Key(row, m) => {
-                if types::meets_template(s, m) {
-                    return Ok(row);
-                }
-                Err(Halt::Stopped)
-            }
+        match keys::stored(&self.keys, x) {
+            Some(found) if types::meets_template(s, found.template) => Ok(found.key),
+            _ => Err(Halt::Stopped),
         }
     }
 
