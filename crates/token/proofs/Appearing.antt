@@ -174,10 +174,14 @@ row_taken c (Some i) n e = go (ltb c.rows n) e
     go true e = ap (λ m. Gave (with_rows m c) i) e
     go false e = ap (λ m. Gave (with_rows m c) i) e
 
-pub row_told : (c : Counts) {v : Value} {vs : List Value} {r : Option ℕ} {f g : Filled} → c.rows ≡ f.len → f.len ≡ length vs → AppearedIn v vs r f g
+pub row_told : (c : Counts) {v : Value} {vs : List Value} {r : Option ℕ} {f g : Filled} → c.rows ≡ f.len → f.len ≡ length vs
+    → AppearedIn v vs r f g
     → outcome_told (rowed r) (with_rows g.len c) ≡ took_of c (interned_told r f.len g.len)
 row_told c {v} {vs} {r} {f} {g} rows count A =
-    rw (← rows) (row_taken c r g.len (A.counted ∙ rows_grown (length f.table.now) v vs ∙ ap₂ count_after (sym A.appeared.answer) (sym count) ∙ rw rows))
+    let counted : g.len ≡ count_after (interned_told r f.len g.len) f.len =
+    A.counted ∙ rows_grown (length f.table.now) v vs ∙ ap₂ count_after (sym A.appeared.answer) (sym count)
+    in
+    rw (← rows) (row_taken c r g.len (rw rows counted))
 
 pub computes : {σ : State} {t ks gs u : List ℕ} {c : Counts} {a : Interned} {r : Outcome} → Carries σ t ks gs → FewAtoms σ → c ≡ counts_of σ
     → (o : Operation) (x y : ℕ) → OperandsBelow o x y c.rows → r ≡ took_of c a
@@ -241,7 +245,8 @@ module _ {σ : State} {t ks gs u : List ℕ} {r : Outcome} (C : Carries σ t ks 
 
 -- what the code tells of the atom's row
 pub atom_told : (c : Counts) {r : Option ℕ} {f g : Filled} {x : ℕ} → c.rows ≡ f.len → (f.len < length f.table.now → Pushed f x r g)
-    → (length f.table.now ≤ f.len → NotPushed f r g) → outcome_told (rowed r) (with_rows g.len (one_atom c)) ≡ atom_of (length f.table.now) c
+    → (length f.table.now ≤ f.len → NotPushed f r g)
+    → outcome_told (rowed r) (with_rows g.len (one_atom c)) ≡ atom_of (length f.table.now) c
 unfolding atom_of
 atom_told c {r} {f} {g} rows with_room without_room = go (dec_lt f.len (length f.table.now))
   where
@@ -263,11 +268,11 @@ pub record AtomGiven (len : ℕ) (c c' : Counts) (row : ℕ) : Type 0 where
   pub guards : c'.guards ≡ c.guards
   pub last : row ≡ c.rows
 
-pub atom_given : {len : ℕ} {c c' : Counts} {row : ℕ} {r : Outcome} → r ≡ Gave c' row → r ≡ atom_of len c → AtomGiven len c c' row
+pub atom_given : {len : ℕ} {c c' : Counts} {row : ℕ} → Gave c' row ≡ atom_of len c → AtomGiven len c c' row
 unfolding atom_of
-atom_given {len} {c} {c'} {row} {r} e answer = go (ltb c.rows len) refl answer
+atom_given {len} {c} {c'} {row} = go (ltb c.rows len) refl
   where
-    go : (b : Bool) → ltb c.rows len ≡ b → r ≡ cond b (Gave (one_row (one_atom c)) c.rows) (Full 32 (one_atom c))
+    go : (b : Bool) → ltb c.rows len ≡ b → Gave c' row ≡ cond b (Gave (one_row (one_atom c)) c.rows) (Full 32 (one_atom c))
         → AtomGiven len c c' row
     go true f answer =
         let counts : c' ≡ one_row (one_atom c) = cc in

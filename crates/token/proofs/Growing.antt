@@ -87,7 +87,8 @@ guards_by_each vs us gs fit each = ext_get_or (const 0) (map (value_at vs) (take
     long : length (map (value_at vs) (take (length us) gs)) ≡ length us
     long = length-map (take (length us) gs) (value_at vs) ∙ count
 
-    at : (i : ℕ) → i < length (map (value_at vs) (take (length us) gs)) → value_at (map (value_at vs) (take (length us) gs)) i ≡ value_at us i
+    at : (i : ℕ) → i < length (map (value_at vs) (take (length us) gs))
+        → value_at (map (value_at vs) (take (length us) gs)) i ≡ value_at us i
     at i h =
         let l : i < length us = omega (arith, long) in
         get_or-map (value_at vs) (take (length us) gs) i 0 (const 0) (omega (arith, count))

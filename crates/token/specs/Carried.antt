@@ -128,10 +128,6 @@ room_in t = room_of t.rows.table.now t.keys.table.now
 abbrev pub CarriedIn : State → Token → Type 0
 CarriedIn σ t = Carries σ t.rows.table.now t.keys.table.now t.guards.table.now
 
--- what is seen to before an atom is made
-abbrev pub AtomsFit : Token → Type 0
-AtomsFit t = (t.rows.len ≤ length t.rows.table.now) × (t.rows.len ≤ 4096) × (t.atoms ≤ t.rows.len)
-
 -- between two steps: the token is that of the state
 pub record Stands (σ : State) (t : Token) : Type 0 where
   pub carries : CarriedIn σ t

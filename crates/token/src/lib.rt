@@ -10,8 +10,9 @@ ghost use Rattle.model.specs.Token.{State, appear, generate, store, perform};
 ghost use Rattle.values.specs.Holds.{Holds, AppearedIn};
 ghost use Rattle.values.specs.Filled.{SameTable};
 ghost use Rattle.token.specs.Outcome.{Gave, outcome_told, counts_in, SameTables, KeysKept};
-ghost use Rattle.token.specs.Carried.{counts_of, AtomsFit, OperandsBelow, Named, Extends, Tidy, room_in, CarriedIn, Stands, ReadyIn, PerformsIn};
-ghost use Rattle.token.specs.Numbers.{MakesAtom, MakesHandle, key_number, Keeps, get_of};
+ghost use Rattle.token.specs.Carried.{counts_of, Tidy, OperandsBelow, Named, Extends};
+ghost use Rattle.token.specs.Carried.{room_in, CarriedIn, Stands, ReadyIn, PerformsIn};
+ghost use Rattle.token.specs.Numbers.{AtomsFit, MakesAtom, MakesHandle, key_number, Keeps, get_of};
 
 use model::{Full, Op, Operation, Step};
 use values::Filled;
@@ -103,7 +104,7 @@ impl Token<'_> {
         Err(Halt::Full(Full::Keys))
     }
 
-    // The value in row k is kept under the handle in row h, at the next place, and is guarded where that is asked for. Gives the handle.
+    // The value in row k is kept under the handle in row h, at the next place, and is guarded where that is asked for. The handle is given.
     fn keep(&mut self, h: usize, k: usize, t: u8, guarded: bool) -> usize
         requires { (self.old.keys.len < length self.old.keys.table.now) × (self.old.guards.len < length self.old.guards.table.now)
             × (h < 65536) × (k < 65536) }
@@ -194,6 +195,7 @@ impl Token<'_> {
     {
         self.rows.truncate(earlier.rows);
         self.keys.truncate(earlier.keys);
+        // Nobody looks at the guards past their length, so they need not be cleared.
         self.guards.len = earlier.guards;
         self.atoms = earlier.atoms;
     }
