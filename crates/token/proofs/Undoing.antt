@@ -111,3 +111,7 @@ module _ {σ σ' : State} {t ks gs : List ℕ} (T : Tidy σ) (C : Carries σ' t 
     guards_have_rows = guard_has_row;
     guards_fit = omega (arith, C.guards_fit);
   }
+
+-- a lent table is what the call left that it was lent to
+pub carried_there : {σ : State} {t t' ks ks' gs : List ℕ} → Carries σ t ks gs → t' ≡ t → ks' ≡ ks → Carries σ t' ks' gs
+carried_there C e f = rw (e, f) C

@@ -34,7 +34,7 @@ took_of c NoRoom = Full 32 c
 
 -- what is seen to before an atom is made
 abbrev pub AtomsFit : Token → Type 0
-AtomsFit t = (t.rows.len ≤ length t.rows.table.now) × (t.rows.len ≤ 4096) × (t.atoms ≤ t.rows.len)
+AtomsFit t = (t.used.rows ≤ length t.rows.now) × (t.used.rows ≤ 4096) × (t.used.atoms ≤ t.used.rows)
 
 -- a new atom, where there is room for len rows
 unfoldable pub atom_of : ℕ → Counts → Outcome
