@@ -21,8 +21,8 @@ use Rattle.values.specs.declared.Filled.{Filled}
 use Rattle.values.proofs.Index.{get_d_of_map}
 use Rattle.values.proofs.Present.{present_means_below, present_kept, row_kept}
 use Rattle.values.proofs.Padded.{length_padded}
-use Rattle.token.specs.Outcome.{Gave, counts_in}
-use Rattle.token.specs.Carried.{PerformsIn, Stands, room_in}
+use Rattle.token.specs.Outcome.{Gave, outcome_told}
+use Rattle.token.specs.Carried.{Performs, PerformsIn, Stands, room_in}
 use Rattle.token.specs.declared.Halt.TheVariants as halt
 use Rattle.token.specs.declared.Token.{Token}
 use Rattle.token.proofs.Appearing.{appears, appears_again, row_told}
@@ -34,11 +34,12 @@ use Rattle.line.proofs.States.{rows_counted, stop_performs}
 -- ---- a constant, and a value that has its row
 
 module _ {σ : State} {t : Token} (S : Stands σ t) where
-  constant_appears : (k : ℕ) (r : Option ℕ) (rows : Filled) → AppearedIn (const k) σ.world.rows r t.rows rows
-      → PerformsIn σ (appear (room_in t) (const k) σ) (ok_or r (halt.Full Rows)) (record t { rows = rows })
-  constant_appears k r rows A =
-      rw (row_told (counts_in t) refl (rows_counted S) A)
-      (appears (room_in t) refl S.carries S.counts_are A.appeared
+  constant_appears : (k : ℕ) (r : Option ℕ) {f g : Filled} → t.used.rows ≡ f.len → f.table.now ≡ t.rows.now
+      → AppearedIn (const k) σ.world.rows r f g → {w : List ℕ} → w ≡ g.table.now
+      → Performs σ (appear (room_in t) (const k) σ) (outcome_told (ok_or r (halt.Full Rows)) (record t.used { rows = g.len })) w t.keys.now t.guards.now
+  constant_appears k r count table A exit =
+      rw (row_told t.used count (sym count ∙ rows_counted S) A)
+      (appears (room_in t) refl S.carries S.counts_are (rw (table, ← exit) at A.appeared)
       (λ new n h e. let z : ◌≡◌ {A = ℕ} 0 1 = cc in omega arith)
       (λ there. S.few_atoms)
       (omega (arith, S.few_atoms)))
@@ -117,7 +118,7 @@ module _ {fs : List Finished} {rows : List Value} {outcomes : List ℕ} (F : Fin
 -- ---- what the number of an argument tells the code
 
 module _ {σ : State} {fs : List Finished} {t : Token} {outcomes : List ℕ} {n : ℕ} where
-  pub argument_ready : (a : Arg) → ArgumentGiven σ fs a t outcomes n → length t.rows.table.now ≤ 4096 → ArgumentReady t outcomes n
+  pub argument_ready : (a : Arg) → ArgumentGiven σ fs a t outcomes n → length t.rows.now ≤ 4096 → ArgumentReady t outcomes n
   argument_ready a G small = record {
     rows_fit = omega (arith, rows_counted G.stands, G.stands.carries.rows_held.fit);
     rows_small = small;
@@ -132,15 +133,17 @@ module _ {σ : State} {fs : List Finished} {t : Token} {outcomes : List ℕ} {n 
           let few = G.finishing.few in
           (omega (arith, G.code_is), λ h. omega (arith, G.code_is, table_long G.finishing))
 
-  pub constant_is_taken : 0x8000 ≤ n → (r : Option ℕ) (rows : Filled)
-      → ((vs : List Value) → Holds t.rows.table.now vs → t.rows.len ≡ length vs → AppearedIn (const (n % 0x8000)) vs r t.rows rows)
-      → (a : Arg) → ArgumentGiven σ fs a t outcomes n
-      → PerformsIn σ (appearing (room_in t) (argument fs a) σ) (ok_or r (halt.Full Rows)) (record t { rows = rows })
-  constant_is_taken high r rows appears (constant k) G =
+  pub constant_is_taken : 0x8000 ≤ n → (r : Option ℕ) {f g : Filled} → t.used.rows ≡ f.len → f.table.now ≡ t.rows.now
+      → ((vs : List Value) → Holds f.table.now vs → f.len ≡ length vs → AppearedIn (const (n % 0x8000)) vs r f g)
+      → {w : List ℕ} (a : Arg) → ArgumentGiven σ fs a t outcomes n → w ≡ g.table.now
+      → Performs σ (appearing (room_in t) (argument fs a) σ) (outcome_told (ok_or r (halt.Full Rows)) (record t.used { rows = g.len })) w t.keys.now t.guards.now
+  constant_is_taken high r count table appeared (constant k) G exit =
       let small = ltb→lt k 0x8000 G.read in
       let same : n % 0x8000 ≡ k = omega (arith, G.code_is) in
-      rw (← same) (constant_appears G.stands (n % 0x8000) r rows (appears σ.world.rows G.stands.carries.rows_held (rows_counted G.stands)))
-  constant_is_taken high r rows appears (of_line i) G =
+      let held = G.stands.carries.rows_held in
+      rw (← same)
+      (constant_appears G.stands (n % 0x8000) r count table (appeared _ (rw table held) (sym count ∙ rows_counted G.stands)) exit)
+  constant_is_taken high r count table appeared (of_line i) G exit =
       let there = ltb→lt i (length fs) G.named in
       let few = G.finishing.few in
       absurd (omega (arith, G.code_is))

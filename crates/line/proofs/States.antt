@@ -11,7 +11,7 @@ use lib.Seq.{get_or_at, get_or-set_same, get_or-set_other}
 use Rattle.model.specs.Value.{Value, const, value_at}
 use Rattle.model.specs.Token.{State, at_most, Out, stopped, and_then}
 use Rattle.values.proofs.Present.{value_at_its_row}
-use Rattle.token.specs.Outcome.{Outcome, Stopped, SameTables, counts_in}
+use Rattle.token.specs.Outcome.{Outcome, Stopped, SameTables}
 use Rattle.token.specs.Carried.{Extends, Performs, PerformsIn, ReadyIn, Stands, room_in}
 use Rattle.token.specs.declared.Counts.{Counts}
 use Rattle.token.specs.declared.Halt.{Halt}
@@ -30,10 +30,10 @@ pub same_tables_trans : (t u v : Token) → SameTables t u → SameTables u v �
 same_tables_trans t u v f g =
     ((g.0.0 ∙ f.0.0, g.0.1 ∙ f.0.1), (g.1.0 ∙ f.1.0, g.1.1 ∙ f.1.1), (g.2.0 ∙ f.2.0, g.2.1 ∙ f.2.1))
 
-pub rows_length : (t u : Token) → SameTables t u → length u.rows.table.now ≡ length t.rows.table.now
+pub rows_length : (t u : Token) → SameTables t u → length u.rows.now ≡ length t.rows.now
 rows_length t u s = s.0.1
 
-pub keys_length : (t u : Token) → SameTables t u → length u.keys.table.now ≡ length t.keys.table.now
+pub keys_length : (t u : Token) → SameTables t u → length u.keys.now ≡ length t.keys.now
 keys_length t u s = s.1.1
 
 pub same_room : (t u : Token) → SameTables t u → room_in u ≡ room_in t
@@ -41,10 +41,10 @@ same_room t u s = ap₂ (λ m n. record { rows = at_most m; keys = at_most n }) 
 
 -- ---- what a state makes ready
 
-pub ready_where_it_stands : {σ : State} {t : Token} → Stands σ t → length t.rows.table.now ≤ 4096 → length t.keys.table.now ≤ 256 → ReadyIn t
+pub ready_where_it_stands : {σ : State} {t : Token} → Stands σ t → length t.rows.now ≤ 4096 → length t.keys.now ≤ 256 → ReadyIn t
 ready_where_it_stands S rows_small keys_small = ready_again S.carries S.few_atoms S.counts_are rows_small keys_small
 
-pub rows_counted : {σ : State} {t : Token} → Stands σ t → t.rows.len ≡ length σ.world.rows
+pub rows_counted : {σ : State} {t : Token} → Stands σ t → t.used.rows ≡ length σ.world.rows
 rows_counted S = ap (λ (k : Counts). k.rows) S.counts_are
 
 -- ---- later states
@@ -74,7 +74,7 @@ stop_performs {σ} S = record {
 -- ---- a row with which a line goes on, and a halt with which it ends
 
 abbrev pub WentIn : State → Out → ℕ → Token → Type 0
-WentIn σ o row t = Went σ o (counts_in t) row t.rows.table.now t.keys.table.now t.guards.table.now
+WentIn σ o row t = Went σ o t.used row t.rows.now t.keys.now t.guards.now
 
 pub goes_on_with_row : {σ : State} {o : Out} {row : ℕ} (t : Token) → PerformsIn σ o (Ok row) t → WentIn σ o row t
 goes_on_with_row t P = went refl P

@@ -69,7 +69,7 @@ record Next (σ : State) (ss : List Step) (vs : List Value) (t : Token) (part : 
   rest : List Step
   split : ss ≡ s ∷ rest
   read_is : step_from (get_or part i 0) ≡ s
-  named : Named s (get_or values s.a 0) (get_or values s.b 0) t.rows.len
+  named : Named s (get_or values s.a 0) (get_or values s.b 0) t.used.rows
   same : (ρ : Room)
       → perform ρ (op_of s) s (value_at σ.world.rows (get_or values s.a 0)) (value_at σ.world.rows (get_or values s.b 0)) σ
       ≡ perform ρ (op_of s) s (value_at vs s.a) (value_at vs s.b) σ
@@ -142,11 +142,11 @@ module _ {before : Token} {part : List ℕ} {params : ℕ} {values₀ : List ℕ
   -- the step that the code reads at place i, and the rows that it takes for the step's values
   module _ (h : i < length part) (s : Step) (x y : ℕ) (s_is : s ≡ step_from (get_or part i 0)) (x_is : x ≡ get_or values s.a 0)
       (y_is : y ≡ get_or values s.b 0) where
-    pub next_is_ready : StepsReady before part params values₀ → ReadyIn t × Named s x y t.rows.len
+    pub next_is_ready : StepsReady before part params values₀ → ReadyIn t × Named s x y t.used.rows
     next_is_ready R =
         let reached = L.reached R.σ R.ss R.vs R.given in
         let next = next_of reached.ss reached.given h in
-        let named = subst (λ (z : Step). Named z (get_or values z.a 0) (get_or values z.b 0) t.rows.len) (sym (s_is ∙ next.read_is)) next.named in (
+        let named = subst (λ (z : Step). Named z (get_or values z.a 0) (get_or values z.b 0) t.used.rows) (sym (s_is ∙ next.read_is)) next.named in (
           ready_where_it_stands reached.given.stands
               (omega (arith, rows_length before t L.same_tables, R.rows_small))
               (omega (arith, keys_length before t L.same_tables, R.keys_small)),

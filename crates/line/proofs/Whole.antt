@@ -292,7 +292,7 @@ module _ {σ : State} {cs : List Command} {fs : List Finished} {l : Line} {t : T
     module _ {a : Operation} (is : h.act ≡ Compute a) where
       -- the values that are there are those of the first rows
       operand : (i : ℕ) → i < length (args_of_line l)
-          → (get_or values i 0 < t'.rows.len) × (value_at all_taken.σ'.world.rows (get_or values i 0) ≡ value_at all_taken.vs i)
+          → (get_or values i 0 < t'.used.rows) × (value_at all_taken.σ'.world.rows (get_or values i 0) ≡ value_at all_taken.vs i)
       operand i h =
           let there : i < length all_taken.vs = omega (arith, all_taken.as_many) in
           (omega (arith, all_taken.valued.has_row i there, rows_counted all_taken.stands), all_taken.valued.is i there)

@@ -45,8 +45,8 @@ pub record ArgumentGiven (σ : State) (fs : List Finished) (a : Arg) (t : Token)
   pub code_is : code ≡ arg_code a
 
 pub record ArgumentReady (t : Token) (outcomes : List ℕ) (code : ℕ) : Type 0 where
-  pub rows_fit : t.rows.len ≤ length t.rows.table.now
-  pub rows_small : length t.rows.table.now ≤ 4096
+  pub rows_fit : t.used.rows ≤ length t.rows.now
+  pub rows_small : length t.rows.now ≤ 4096
   pub code_small : code < 65536
   pub line_there : code < 0x8000 → code < length outcomes
 
@@ -72,7 +72,7 @@ pub record ArgumentsReady (t : Token) (outcomes : List ℕ) (left count : ℕ) :
   pub args : List Arg
   pub given : ArgumentsGiven σ fs args t outcomes left 0 count
   pub few : count ≤ 4
-  pub rows_small : length t.rows.table.now ≤ 4096
+  pub rows_small : length t.rows.now ≤ 4096
 
 -- all arguments are there: from their values and the state then, any line goes on
 pub record AllTaken (ρ : Room) (σ : State) (fs : List Finished) (args : List Arg) (t : Token) (values : List ℕ) : Type 0 where
@@ -112,8 +112,8 @@ pub record StepsReady (t : Token) (part : List ℕ) (params : ℕ) (values : Lis
   pub few_steps : length part ≤ 16
   pub few_params : params ≤ 4
   pub values_long : length values ≡ 20
-  pub rows_small : length t.rows.table.now ≤ 4096
-  pub keys_small : length t.keys.table.now ≤ 256
+  pub rows_small : length t.rows.now ≤ 4096
+  pub keys_small : length t.keys.now ≤ 256
 
 -- ---- an operation of the attacker's own
 
@@ -126,8 +126,8 @@ second_of (Derive label) = 0
 pub record OperandsReady (t : Token) (o : Operation) (values : List ℕ) : Type 0 where
   pub ready : ReadyIn t
   pub values_long : length values ≡ 20
-  pub first_there : get_or values 0 0 < t.rows.len
-  pub second_there : get_or values (second_of o) 0 < t.rows.len
+  pub first_there : get_or values 0 0 < t.used.rows
+  pub second_there : get_or values (second_of o) 0 < t.used.rows
 
 -- the line ends with the value
 abbrev pub computed : Room → Operation → Value → Value → State → Out

@@ -16,6 +16,7 @@ ghost use Rattle.line.specs.Stages.{head_from, earlier_from, ArgumentGiven, Argu
 
 use model::{Full, Operation, Step};
 use token::{Halt, Token};
+use values::Filled;
 
 // What a line does once its arguments are there: it calls a command, by its number, or computes by itself.
 #[derive(Clone, Copy, PartialEq, Eq, Debug)]
@@ -64,7 +65,13 @@ fn argument(token: &mut Token<'_>, outcomes: &[u64], code: usize) -> Result<usiz
     ensures same_tables { SameTables token.old token.new }
 {
     if code >= 0x8000 {
-        return values::appear_const(&mut token.rows, code % 0x8000).ok_or(Halt::Full(Full::Rows));
+        let mut rows = Filled {
+            table: &mut *token.rows,
+            len: token.used.rows,
+        };
+        let row = values::appear_const(&mut rows, code % 0x8000);
+        token.used.rows = rows.len;
+        return row.ok_or(Halt::Full(Full::Rows));
     }
     earlier_row(outcomes[code]).ok_or(Halt::Stopped)
 }
