@@ -195,9 +195,9 @@ fn codes_constant(x: u64) -> bool
 }
 
 // Whether a row is a constant.
-pub fn is_constant(rows: &Filled<'_>, i: usize) -> bool
-    requires { i < length rows.now.table.now }
-    ensures { (vs : List Value) → Holds rows.now.table.now vs → i < length vs → result ≡ is_const (value_at vs i) }
+pub fn is_constant(rows: &[u64], i: usize) -> bool
+    requires { i < length rows.now }
+    ensures { (vs : List Value) → Holds rows.now vs → i < length vs → result ≡ is_const (value_at vs i) }
 {
-    codes_constant(rows.table[i])
+    codes_constant(rows[i])
 }
