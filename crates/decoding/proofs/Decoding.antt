@@ -9,6 +9,7 @@ use native.Mathlib.Omega.{arith}
 use lib.Dec.{T, ltb, leb, ltb→lt, leb→le, eqb→eq}
 use lib.ListN.{get_or, length, take, drop, length-append, length-replicate, length-map, get_or-append, get_or-map}
 use lib.Seq.{take-append_seam, take_at, drop_at, drop-drop, get_or-take, get_or-drop}
+use Rattle.std.proofs.lemmas.List.{map-append}
 use Rattle.model.specs.Basics.{every, up_from}
 use Rattle.model.specs.Step.{fields_of, ops, op_of, Command}
 use Rattle.model.specs.declared.Operation.TheVariants.{Encrypt, Decrypt, Derive}
@@ -127,10 +128,6 @@ read_in_parts c read =
       made_names = and_right (params && count && formed && last) named read;
     }
 
-map_append : {A B : Type 0} (f : A → B) (xs ys : List A) → map f (xs ++ ys) ≡ map f xs ++ map f ys
-map_append f [] ys = refl
-map_append f (x ∷ xs) ys = ap (λ l. f x ∷ l) (map_append f xs ys)
-
 -- the places of a command in the steps' table
 abbrev pub places_of : Command → List ℕ
 places_of c = padded 16 (map step_code c.steps)
@@ -157,7 +154,7 @@ module _ (c : Command) (read : Read c) where
       let count : min (command_code c / 256) 16 ≡ length c.steps = omega (arith, count_back, read.few_steps) in
       let few : c.params + length c.steps ≤ 20 = omega (arith, read.few_params, read.few_steps) in
       ap₂ (λ k ss. record { params = k; steps = ss }) params
-      (ap₂ take count (map_append step_from codes (zeros (16 - length codes))
+      (ap₂ take count (map-append step_from codes (zeros (16 - length codes))
       ∙ ap (λ l. l ++ unused) (steps_back c.params c.steps few read.steps_formed read.made_names))
       ∙ take-append_seam c.steps unused)
 
