@@ -3,7 +3,6 @@
 -- Assumes nothing.
 use Prim.Native.Nat.{ℕ, zero, suc, ◌+◌, ◌-◌, ◌*◌, ◌/◌, ◌%◌, ◌≤◌, ◌<◌, min}
 use mathlib.Core.Path.{◌≡◌, refl, sym, ap, ap₂, ◌∙◌}
-use mathlib.Core.Bool.{Bool, ◌&&◌}
 use mathlib.Core.List.{List, [], ◌∷◌, ◌++◌, map, append_assoc}
 use native.Mathlib.Omega.{arith}
 use lib.Dec.{T, ltb, leb, ltb→lt, leb→le, eqb→eq}
@@ -18,7 +17,7 @@ use Rattle.model.specs.declared.Op.TheVariants.{Return, Get, Generate, Store, Co
 use Rattle.model.specs.declared.Use.{Use}
 use Rattle.model.specs.declared.Use.TheVariants.{Nothing, Operand, Attributes, Label}
 use Rattle.model.specs.Token.{command_at}
-use Rattle.model.specs.Frame.{field_formed, step_formed, returns_last, field_names, step_names, names_made}
+use Rattle.model.specs.Frame.{field_formed, step_formed, field_names, step_names, names_made}
 use Rattle.model.specs.Tables.{zeros, padded, step_code, command_code, step_codes, command_read}
 use Rattle.model.specs.declared.Step.{Step}
 use Rattle.model.proofs.Tests.{and_left, and_right}
@@ -75,20 +74,12 @@ last_small Unknown x formed = let none = eqb→eq x 0 formed in omega arith
 pub step_small : (n : ℕ) (s : Step) → n ≤ 20 → T (step_formed s) → T (step_names n s) → Small s
 step_small n s few formed named =
     let uses = fields_of (op_of s) in
-    let many = length (ops s.t) in
-    let known : Bool = ltb s.op many in
-    let a_formed = field_formed uses.a s.a in
-    let b_formed = field_formed uses.b s.b in
-    let t_formed = field_formed uses.t s.t in
-    let a_named = field_names n uses.a s.a in
-    let b_named = field_names n uses.b s.b in
-    let without_t = and_left (known && a_formed && b_formed) t_formed formed in
-    let without_b = and_left (known && a_formed) b_formed without_t in
+    let known : T (ltb s.op (length (ops s.t))) = search (and_left, and_right) in
     record {
-      op_small = omega (arith, ltb→lt s.op many (and_left known a_formed without_b));
-      a_small = used_small uses.a n s.a few (and_right known a_formed without_b) (and_left a_named b_named named);
-      b_small = used_small uses.b n s.b few (and_right (known && a_formed) b_formed without_t) (and_right a_named b_named named);
-      t_small = last_small (op_of s) s.t (and_right (known && a_formed && b_formed) t_formed formed);
+      op_small = omega (arith, ltb→lt s.op (length (ops s.t)) known);
+      a_small = used_small uses.a n s.a few (search (and_left, and_right)) (search and_left);
+      b_small = used_small uses.b n s.b few (search (and_left, and_right)) (search (and_left, and_right));
+      t_small = last_small (op_of s) s.t (search (and_left, and_right));
     }
 
 steps_back : (n : ℕ) (ss : List Step) → n + length ss ≤ 20 → T (every step_formed ss) → T (names_made n ss)
@@ -96,11 +87,9 @@ steps_back : (n : ℕ) (ss : List Step) → n + length ss ≤ 20 → T (every st
 unfolding names_made
 steps_back n [] few formed named = refl
 steps_back n (s ∷ ss) few formed named =
-    let first = and_left (step_formed s) (every step_formed ss) formed in
-    let rest = and_right (step_formed s) (every step_formed ss) formed in
     ap₂ (λ x xs. x ∷ xs)
-    (step_back s (step_small n s (omega arith) first (and_left (step_names n s) (names_made (suc n) ss) named)))
-    (steps_back (suc n) ss (omega arith) rest (and_right (step_names n s) (names_made (suc n) ss) named))
+    (step_back s (step_small n s (omega arith) (search and_left) (search and_left)))
+    (steps_back (suc n) ss (omega arith) (search and_right) (search and_right))
 
 -- ---- a command
 
@@ -113,19 +102,13 @@ pub record Read (c : Command) : Type 0 where
 
 pub read_in_parts : (c : Command) → T (command_read c) → Read c
 read_in_parts c read =
-    let params : Bool = leb c.params 4 in
-    let count : Bool = leb (length c.steps) 16 in
-    let formed = every step_formed c.steps in
-    let last = returns_last c.steps in
-    let named = names_made c.params c.steps in
-    let without_named = and_left (params && count && formed && last) named read in
-    let without_last = and_left (params && count && formed) last without_named in
-    let counts = and_left (params && count) formed without_last in
+    let params : T (leb c.params 4) = search (and_left, and_right) in
+    let count : T (leb (length c.steps) 16) = search (and_left, and_right) in
     record {
-      few_params = leb→le c.params 4 (and_left params count counts);
-      few_steps = leb→le (length c.steps) 16 (and_right params count counts);
-      steps_formed = and_right (params && count) formed without_last;
-      made_names = and_right (params && count && formed && last) named read;
+      few_params = leb→le c.params 4 params;
+      few_steps = leb→le (length c.steps) 16 count;
+      steps_formed = search (and_left, and_right);
+      made_names = search (and_left, and_right);
     }
 
 -- the places of a command in the steps' table
@@ -175,8 +158,8 @@ command_entry cs c there =
 
 pub read_at : (cs : List Command) (c : ℕ) → T (every command_read cs) → c < length cs → Read (command_at cs c)
 read_at [] c read there = absurd (omega arith)
-read_at (x ∷ xs) zero read there = read_in_parts x (and_left (command_read x) (every command_read xs) read)
-read_at (x ∷ xs) (suc c) read there = read_at xs c (and_right (command_read x) (every command_read xs) read) (omega arith)
+read_at (x ∷ xs) zero read there = read_in_parts x (search and_left)
+read_at (x ∷ xs) (suc c) read there = read_at xs c (search and_right) (omega arith)
 
 -- the sixteen places of command c, whatever follows the last command
 places_before : (cs : List Command) (later : List ℕ) (c : ℕ) → T (every command_read cs) → c < length cs
@@ -189,7 +172,7 @@ places_before (x ∷ xs) later (suc c) read there =
     let next : 16 * suc c ≡ 16 + 16 * c = omega arith in
     let size = sixteen_places x (read_at (x ∷ xs) 0 read (omega arith)) in
     rw (append_assoc, next, ← drop-drop, drop_at (places_of x) (step_codes xs ++ later) 16 size)
-    (places_before xs later c (and_right (command_read x) (every command_read xs) read) (omega arith))
+    (places_before xs later c (search and_right) (omega arith))
 
 -- command c of two tables, and k commands from c on
 unfoldable pub command_in : List ℕ → List ℕ → ℕ → Command

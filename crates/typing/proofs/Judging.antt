@@ -19,9 +19,8 @@ use Rattle.model.specs.declared.Rule.{Rule}
 use Rattle.model.specs.declared.Broken.{Broken}
 use Rattle.model.specs.Told.{broken_told, judged_told}
 use Rattle.model.specs.Frame.{File}
-use Rattle.model.specs.Typing.{refusal, gives, type_at, step_findings, findings, accepted, first_refusal, verdict}
+use Rattle.model.specs.Typing.{Verdict, refusal, gives, type_at, step_findings, findings, accepted, first_refusal, verdict}
 use Rattle.model.specs.declared.Step.{Step}
-use Rattle.model.specs.Typing.{Verdict}
 use Rattle.typing.specs.Given.{Given}
 use Rattle.decoding.specs.Decoded.{step_from, command_from}
 use Rattle.typing.specs.Judged.{command_findings}

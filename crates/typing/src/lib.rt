@@ -120,14 +120,10 @@ fn check_step(policy: Policy, s: Step, x: Ty, y: Ty) -> Result<(), Rule>
 fn type_given(policy: Policy, s: Step, x: Ty, y: Ty) -> Ty
     ensures { result ≡ gives policy (op_of s) s x y }
 {
-    let Policy {
-        transported,
-        allowing,
-    } = policy;
     match s.op() {
         Op::Return => x,
-        Op::Get => get_type(allowing, s),
-        Op::Compute(Operation::Decrypt) => decrypt_type(transported, y),
+        Op::Get => get_type(policy.allowing, s),
+        Op::Compute(Operation::Decrypt) => decrypt_type(policy.transported, y),
         Op::Compute(Operation::Derive(label)) => derive_type(label, y),
         _ => Ty::Un,
     }
