@@ -52,7 +52,8 @@ module _ (s : Step) (small : Small s) where
   unfolding step_from
   step_back = rw (op_back, a_back, b_back, t_back)
 
--- The steps that reading takes are small: a field is 0 where its op does not use it, names one of at most twenty values, or is a set of attributes or a label.
+-- The steps that reading takes are small: a field is 0 where its op does not use it, names one of at most twenty values,
+-- or is a set of attributes or a label.
 
 used_small : (u : Use) (n x : ℕ) → n ≤ 20 → T (field_formed u x) → T (field_names n u x) → x < 64
 used_small Nothing n x few formed named = let none = eqb→eq x 0 formed in omega arith
@@ -150,7 +151,8 @@ padded_entry : (n : ℕ) (xs : List ℕ) (i : ℕ) → i < length xs → get_or 
 unfolding padded
 padded_entry n xs i within = get_or-append xs (zeros (n - length xs)) 0 i within
 
-pub command_entry : (cs : List Command) (c : ℕ) → c < length cs → get_or (padded 32 (map command_code cs)) c 0 ≡ command_code (command_at cs c)
+pub command_entry : (cs : List Command) (c : ℕ) → c < length cs
+    → get_or (padded 32 (map command_code cs)) c 0 ≡ command_code (command_at cs c)
 unfolding command_code
 command_entry cs c there =
     padded_entry 32 (map command_code cs) c (omega (arith, length-map cs command_code))
@@ -187,7 +189,8 @@ module _ (cs : List Command) (read : T (every command_read cs)) (c : ℕ) (there
   steps_part = places_before cs (zeros (512 - length (step_codes cs))) c read there
 
   pub step_entry : (i : ℕ) → i < length (command_at cs c).steps
-      → get_or (padded 512 (step_codes cs)) (16 * c + i) 0 ≡ step_code (get_or (command_at cs c).steps i (record { op = 0; a = 0; b = 0; t = 0 }))
+      → get_or (padded 512 (step_codes cs)) (16 * c + i) 0
+      ≡ step_code (get_or (command_at cs c).steps i (record { op = 0; a = 0; b = 0; t = 0 }))
   unfolding step_code
   step_entry i within =
       let steps = (command_at cs c).steps in

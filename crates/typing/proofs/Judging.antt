@@ -6,7 +6,8 @@ use mathlib.Core.List.{List, [], ◌∷◌, ◌++◌, map}
 use native.Mathlib.Nat.{sub-zero}
 use native.Mathlib.Omega.{arith}
 use native.Mathlib.Decide.{ℕ_discrete}
-use lib.ListN.{get_or, length, take, drop, set, replicate, length-append, length-set, length-take, length-map, length-replicate, drop_of_length-le, get_or-map}
+use lib.ListN.{get_or, length, take, drop, set, replicate}
+use lib.ListN.{length-append, length-set, length-take, length-map, length-replicate, drop_of_length-le, get_or-map}
 use Rattle.std.proofs.Common.{Result, Ok, Err}
 use lib.Seq.{drop-cons, get_or-take, get_or_at, get_or-set_same, get_or-set_other}
 use Rattle.model.specs.Basics.{up_from}
@@ -87,7 +88,8 @@ module _ (p : Policy) (f : ℕ) (c : Command) (made : List Ty) (i : ℕ) (s : St
       → broken_told (record { rule = r; frame = f; step = i }) ≡ first_refusal (command_findings p f c)
   unfolding from_here
   refused_here r judged =
-      ap (λ n. record { number = n; frame = f; step = i }) judged ∙ sym (one_step ∙ refusal_at_head _ _ (λ e. no_rule_is_zero r (judged ∙ e)))
+      ap (λ n. record { number = n; frame = f; step = i }) judged
+      ∙ sym (one_step ∙ refusal_at_head _ _ (λ e. no_rule_is_zero r (judged ∙ e)))
 
   -- τ is the type that the step gives, and m the next place
   pub reached_next : (τ : Ty) (m j : ℕ) → 0 ≡ refusal p (op_of s) s x y → τ ≡ gives p (op_of s) s x y
@@ -125,7 +127,8 @@ module _ (code : ℕ) (part : List ℕ) (sixteen : length part ≡ 16) where
   next_step i s within decoded =
       let steps = take (min (code / 256) 16) (map step_from part) in
       drop-cons steps i (step_from 0) (omega (arith, step_count))
-      ∙ ap (λ z. z ∷ drop (suc i) steps) (get_or-take _ (map step_from part) i (step_from 0) within ∙ get_or-map step_from part i 0 ∙ sym decoded)
+      ∙ ap (λ z. z ∷ drop (suc i) steps)
+      (get_or-take _ (map step_from part) i (step_from 0) within ∙ get_or-map step_from part i 0 ∙ sym decoded)
 
 -- ---- the commands of the tables
 
@@ -135,7 +138,8 @@ judged_from p n commands steps c = first_refusal (findings p (suc c) (commands_i
 
 -- command c is the next: found is what it says alone, from its entry and from the places that the code lends
 module _ (p : Policy) (n : ℕ) (commands steps : List ℕ) (c frame : ℕ) (found : Result (Unit {0}) Broken)
-    (judged : judged_told found ≡ first_refusal (command_findings p frame (command_from (get_or commands c 0) (take (16 * c + 16 - 16 * c) (drop (16 * c) steps)))))
+    (judged : judged_told found
+    ≡ first_refusal (command_findings p frame (command_from (get_or commands c 0) (take (16 * c + 16 - 16 * c) (drop (16 * c) steps)))))
     (within : c < n) (framed : frame ≡ suc c) where
   here : List Verdict
   here = command_findings p (suc c) (command_in commands steps c)
@@ -144,7 +148,8 @@ module _ (p : Policy) (n : ℕ) (commands steps : List ℕ) (c frame : ℕ) (fou
   unfolding here command_in
   found_here = let sixteen : 16 * c + 16 - 16 * c ≡ 16 = omega arith in judged ∙ rw (framed, sixteen)
 
-  one_command : judged_from p n commands steps c ≡ first_refusal (here ++ findings p (suc (suc c)) (commands_in commands steps (suc c) (n - suc c)))
+  one_command : judged_from p n commands steps c
+      ≡ first_refusal (here ++ findings p (suc (suc c)) (commands_in commands steps (suc c) (n - suc c)))
   unfolding judged_from here findings commands_in up_from
   one_command = let left : n - c ≡ suc (n - suc c) = omega arith in rw left
 

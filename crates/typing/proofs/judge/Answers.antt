@@ -14,7 +14,8 @@ returns-in_err-judge_command c =
     let out = err_from_is_err_and c.from_residual.result c.from_residual.ensures.1 in
     λ φ given.
     rw (out.1, out.2)
-    (refused_in _ a.n a.commands.now a.steps.now c.loop-c.c _ _ c.judge_command.ensures (omega arith) (omega arith) _ c.in_err-judge_command.was
+    (refused_in _ a.n a.commands.now a.steps.now c.loop-c.c _ _ c.judge_command.ensures
+    (omega arith) (omega arith) _ c.in_err-judge_command.was
     ∙ sym c.loop-c.invariant
     ∙ judged_is_verdict φ _ _ _ _ given)
 

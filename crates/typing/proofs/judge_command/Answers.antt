@@ -48,7 +48,8 @@ loop-step-preserved c =
     reached_next _ a.frame (command_from a.code a.steps.now) c.loop-step.made c.loop-step.step-counter _ _ _ c.loop-step.invariant
     (next_step a.code a.steps.now (omega arith) c.loop-step.step-counter c.step_of-s.result (omega arith) c.step_of-s.ensures)
     c.type_at-x.ensures c.type_at-y.ensures
-    _ _ _ (sym (ap rule_told met) ∙ c.check_step.ensures) c.type_given.ensures (omega (arith, param_count a.code a.steps.now)) (omega arith) (omega arith)
+    _ _ _ (sym (ap rule_told met) ∙ c.check_step.ensures) c.type_given.ensures
+    (omega (arith, param_count a.code a.steps.now)) (omega arith) (omega arith)
 
 pub returns : goal.returns
 returns c =
