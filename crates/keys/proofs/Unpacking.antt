@@ -8,6 +8,7 @@ use native.Mathlib.Numerals.{add-one}
 use native.Mathlib.Omega.{arith}
 use lib.ListN.{length, get_or, set, replicate, take, drop, length-map, length-replicate, get_or-map, get_or-append}
 use lib.Seq.{paste, paste-zero, paste-suc, length-paste, get_or-take, length-take-le}
+use Rattle.keys.specs.declared.KeyRecord.{KeyRecord}
 use Rattle.keys.specs.Stored.{no_record, record_of, records_of}
 
 -- ---- a list d whose first elements are replaced by those of s
@@ -24,9 +25,12 @@ module _ {A : Type 0} (d s : List A) (z : A) where
 
 -- ---- the records
 
-pub no_records : (keys : List ℕ) → replicate 256 no_record ≡ records_of keys 0
+pub no_records : (keys : List ℕ) (none : KeyRecord) → (none.handle ≡ 0) × ((none.key ≡ 0) × (none.template ≡ 0))
+    → replicate 256 none ≡ records_of keys 0
 unfolding records_of
-no_records keys = paste-zero (replicate 256 no_record) 0 (map record_of keys)
+no_records keys none zero =
+    let empty : none ≡ no_record = λ i. record { handle = zero.0 i; key = zero.1.0 i; template = zero.1.1 i } in
+    ap (replicate 256) empty ∙ paste-zero (replicate 256 no_record) 0 (map record_of keys)
 
 -- one number more
 pub records_more : (keys : List ℕ) (i : ℕ) → i < length keys → i < 256

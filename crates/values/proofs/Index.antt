@@ -1,15 +1,15 @@
 -- Laws on the first index that passes a test, and on tests and maps that agree at every place of a list.
 -- Assumes nothing.
 use Prim.Native.Nat.{ℕ, zero, suc, ◌+◌, ◌≤◌, ◌<◌, zero-le}
-use mathlib.Core.Path.{◌≡◌, refl, sym, ap, ◌∙◌}
+use mathlib.Core.Path.{◌≡◌, refl, sym, ap}
 use mathlib.Core.Bool.{Bool, true, false, cond}
 use mathlib.Core.List.{List, [], ◌∷◌, ◌++◌, map}
 use native.Mathlib.Omega.{arith}
 use native.Mathlib.Decide.{dec_lt}
-use lib.Dec.{eqb}
-use lib.ListN.{length, get_or, take}
-use lib.Seq.{get_or-take, length-take-le}
-use borrow.Author.Tests.{eq-eqb, ne_eqb}
+use lib.Dec.{ltb}
+use lib.ListN.{length, get_or}
+use Rattle.std.specs.Prelude.{Some, None, position}
+use Rattle.std.proofs.lemmas.List.Recursion.{is_position_or_len}
 use Rattle.model.specs.Basics.{index_by}
 
 module _ {A : Type 0} (q : A → Bool) where
@@ -89,17 +89,7 @@ module _ {A : Type 0} (d : A) where
   get_d_of_map f (x ∷ xs) zero h = refl
   get_d_of_map f (x ∷ xs) (suc i) h = get_d_of_map f xs i (omega arith)
 
--- a search for x among the first n numbers of t that has passed i of them
-module _ (x : ℕ) (t : List ℕ) (n i : ℕ) (fits : n ≤ length t) (passed : (k : ℕ) → k < i → get_or t k 0 ≡ x → ⊥) where
-  missed : i ≤ n → (k : ℕ) → k < i → eqb x (get_or (take n t) k 0) ≡ false
-  missed h k l = ne_eqb _ _ (λ e. passed k l (sym (e ∙ get_or-take n t k 0 (omega arith))))
-
-  pub search_finds : i < n → get_or t i 0 ≡ x → i ≡ index_by (eqb x) (take n t)
-  search_finds l e =
-      sym (index_is (eqb x) (take n t) 0 i (omega (arith, length-take-le n t fits)) (missed (omega arith))
-      (λ _. eq-eqb _ _ (sym (get_or-take n t i 0 l ∙ e))))
-
-  pub search_ends : i ≡ n → i ≡ index_by (eqb x) (take n t)
-  search_ends e =
-      sym (index_is (eqb x) (take n t) 0 i (omega (arith, length-take-le n t fits)) (missed (omega arith))
-      (λ h. absurd (omega (arith, length-take-le n t fits))))
+-- the library's word for the same place
+pub position_by_index : {A : Type 0} (q : A → Bool) (l : List A) → position q l ≡ cond (ltb (index_by q l) (length l)) (Some (index_by q l)) None
+unfolding index_by
+position_by_index q l = rw (is_position_or_len (index_by q) q refl (λ x xs. ap (cond (q x) 0) (omega arith)) l)
