@@ -138,8 +138,7 @@ pub fn appear_new(rows: &mut Filled<'_>, k: usize) -> Option<usize>
     ensures appears { (vs : List Value) → Holds rows.old.table.now vs → rows.old.len ≡ length vs → present (fresh k) vs ≡ false
         → AppearedIn (fresh k) vs result rows.old rows.new }
 {
-    let x = Row::Fresh(k).code();
-    rows.push(x)
+    rows.push(Row::Fresh(k).code())
 }
 
 // The encryption of row a under row b appears.
