@@ -71,13 +71,20 @@ HeldIn φ t = Held φ t.heads.now t.arguments.now t.commands.now t.steps.now
 abbrev pub TurnIn : Reading → List ℕ → Turn → FileTables → Type 0
 TurnIn c f r t = TurnIs c f r t.heads.now t.arguments.now t.commands.now t.steps.now
 
--- the references are those that were lent
+pub record SameLengths (t t' : FileTables) : Type 0 where
+  pub heads_length : length t'.heads.now ≡ length t.heads.now
+  pub arguments_length : length t'.arguments.now ≡ length t.arguments.now
+  pub commands_length : length t'.commands.now ≡ length t.commands.now
+  pub steps_length : length t'.steps.now ≡ length t.steps.now
+
+-- the references are those that were lent, and each table keeps its length
 abbrev pub SameReferences : FileTables → FileTables → Type 0
 SameReferences t t' =
     (t'.heads.ghost_name ≡ t.heads.ghost_name)
     × (t'.arguments.ghost_name ≡ t.arguments.ghost_name)
     × (t'.commands.ghost_name ≡ t.commands.ghost_name)
     × (t'.steps.ghost_name ≡ t.steps.ghost_name)
+    × SameLengths t t'
 
 -- what the caller sees to: a frame has a first byte, the tables have their lengths, and there is no more than they hold
 pub record Ready (f : List ℕ) (c : Counts) (t : FileTables) : Type 0 where
