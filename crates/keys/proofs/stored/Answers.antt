@@ -8,9 +8,9 @@ use Rattle.keys.proofs.stored.Goals as goal
 pub returns-in_err-i : goal.returns-in_err-i
 returns-in_err-i c =
     let t = c.args.keys.now in
-    c.from_residual.ensures ∙ stored_by_place t.table.now t.len c.args.x c.requires.0 (sym c.in_err-i.was ∙ c.find_handle.ensures)
+    c.from_residual.ensures ∙ stored_by_place t.table.now t.len c.args.x t.fits (sym c.in_err-i.was ∙ c.find_handle.ensures)
 
 pub returns : goal.returns
 returns c =
     let t = c.args.keys.now in
-    ap Some c.found_at.ensures ∙ stored_by_place t.table.now t.len c.args.x c.requires.0 (sym c.in_ok-i.was ∙ c.find_handle.ensures)
+    ap Some c.found_at.ensures ∙ stored_by_place t.table.now t.len c.args.x t.fits (sym c.in_ok-i.was ∙ c.find_handle.ensures)
