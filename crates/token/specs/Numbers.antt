@@ -4,7 +4,6 @@ use Rattle.model.specs.Policy.{meets}
 use Rattle.model.specs.Value.{Value, fresh, present}
 use Rattle.model.specs.declared.Step.{Step}
 use Rattle.values.specs.Holds.{Holds, rows_in}
-use Rattle.values.specs.Interned.{Interned, Found, Added, NoRoom}
 use Rattle.keys.specs.Stored.{stored_of}
 use Rattle.keys.specs.declared.KeyRecord.{KeyRecord}
 use Rattle.token.specs.declared.Counts.{Counts}
