@@ -53,7 +53,7 @@ fn key_code(h: usize, k: usize, t: u8) -> u64
 
 // What is computed from the values in rows x and y appears; None where there is no room for it.
 fn computed(rows: &mut Filled<'_>, operation: Operation, x: usize, y: usize) -> Option<usize>
-    requires { (rows.old.len ≤ length rows.old.table.now) × (rows.old.len ≤ 65536) × OperandsBelow operation x y rows.old.len }
+    requires { (rows.old.len ≤ 65536) × OperandsBelow operation x y rows.old.len }
     ensures same_table { SameTable rows.old rows.new }
     ensures appears { (vs : List Value) → Holds rows.old.table.now vs → rows.old.len ≡ length vs
         → AppearedIn (compute operation (operands operation (value_at vs x) (value_at vs y))) vs result rows.old rows.new }
@@ -144,7 +144,7 @@ impl Token<'_> {
 
     // The stored key of the handle in row x, where its template has what the step asks for. It has a row already.
     fn get(&self, s: Step, x: usize) -> Result<usize, Halt>
-        requires { (self.now.keys.len ≤ length self.now.keys.table.now) × (length self.now.keys.table.now ≤ 256) }
+        requires { length self.now.keys.table.now ≤ 256 }
         ensures { outcome_told result (counts_in self.now) ≡ get_of self.now.keys.table.now (counts_in self.now) s x }
     {
         match keys::stored(&self.keys, x) {
@@ -185,8 +185,8 @@ impl Token<'_> {
 
     // Back to the counts of an earlier state of the same line: what the line has added since is made unused again.
     pub fn undo_line(&mut self, earlier: Counts)
-        requires { (earlier.rows ≤ self.old.rows.len) × (self.old.rows.len ≤ length self.old.rows.table.now)
-            × (earlier.keys ≤ self.old.keys.len) × (self.old.keys.len ≤ length self.old.keys.table.now) }
+        requires { (earlier.rows ≤ self.old.rows.len) × (earlier.keys ≤ self.old.keys.len)
+            × (earlier.guards ≤ self.old.guards.len) }
         ensures same_tables { SameTables self.old self.new }
         ensures counted { counts_in self.new ≡ earlier }
         ensures guards_kept { self.new.guards.table.now ≡ self.old.guards.table.now }

@@ -1,8 +1,8 @@
--- `values::encrypt_rows` meets its contract: the number made of two rows is that of the encryption of their values.
+-- `values::appearing::encrypt_rows` meets its contract: the number made of two rows is that of the encryption of their values.
 -- Assumes nothing.
 use native.Mathlib.Omega.{arith}
 use Rattle.values.proofs.Steps.{encrypt_appears}
-use Rattle.values.proofs.encrypt_rows.Goals as goal
+use Rattle.values.proofs.appearing.encrypt_rows.Goals as goal
 
 pub returns-clause-appears : goal.returns-clause-appears
 returns-clause-appears c =

@@ -1,8 +1,8 @@
--- `values::decrypt_rows` meets its contract: what was encrypted under the same key has its row, and anything else appears.
+-- `values::appearing::decrypt_rows` meets its contract: what was encrypted under the same key has its row, and anything else appears.
 -- Assumes nothing.
 use native.Mathlib.Omega.{arith}
 use Rattle.values.proofs.Steps.{undone_appears, not_undone_appears}
-use Rattle.values.proofs.decrypt_rows.Goals as goal
+use Rattle.values.proofs.appearing.decrypt_rows.Goals as goal
 
 pub returns-in-Some-clause-appears : goal.returns-in-Some-clause-appears
 returns-in-Some-clause-appears c =
