@@ -18,7 +18,7 @@ use Rattle.model.specs.Tables.{zeros, padded, outcome_code}
 use Rattle.model.specs.declared.Full.TheVariants.{Rows}
 use Rattle.values.specs.Holds.{Holds, AppearedIn}
 use Rattle.values.specs.declared.Filled.{Filled}
-use Rattle.values.proofs.Index.{get_d_of_map}
+use Rattle.std.proofs.lemmas.List.{get_or-map}
 use Rattle.values.proofs.Present.{present_means_below, present_kept, row_kept}
 use Rattle.values.proofs.Padded.{length_padded}
 use Rattle.token.specs.Outcome.{Gave, outcome_told}
@@ -91,7 +91,7 @@ module _ {fs : List Finished} {rows : List Value} {outcomes : List ℕ} (F : Fin
       let none_such : Finished = record { outcome = none; row = 0xffff; keys = 0; breach = false } in
       ap (λ l. get_or l i 0) F.codes_are
       ∙ get_or-append (map outcome_code fs) (zeros (1024 - length (map outcome_code fs))) 0 i (omega (arith, length-map fs outcome_code))
-      ∙ get_d_of_map none_such outcome_code fs i h
+      ∙ get_or-map outcome_code fs i none_such 0 h
 
   earlier_told : length rows ≤ 65536 → (i : ℕ) → i < length fs
       → RowIs rows (argument fs (of_line i)) (earlier_from (get_or outcomes i 0))

@@ -25,7 +25,7 @@ use Rattle.values.specs.Interned.{Interned, Found, Added, NoRoom, interned_told,
 use Rattle.values.proofs.Present.{below_means_present, row_added}
 use Rattle.values.proofs.Rows.{row_at, present_at, parts_at}
 use Rattle.token.specs.Carried.{room_of, counts_of, FewAtoms, OperandsBelow, Carries, Extends, Performs}
-use Rattle.token.specs.Numbers.{one_row, one_atom, took_of, atom_of, MakesAtom}
+use Rattle.token.specs.Numbers.{one_row, one_atom, atom_of, MakesAtom}
 use Rattle.token.specs.declared.Counts.{Counts}
 use Rattle.token.specs.declared.Halt.{Halt}
 use Rattle.token.specs.declared.Halt.TheVariants as halt
@@ -54,6 +54,12 @@ module _ {σ : State} {t ks gs : List ℕ} {c : Counts} (C : Carries σ t ks gs)
   full_as_it_is n = record { answer = ap (Full n) count; has_row = tt; atoms_rowed = tt; carries = C; extends = extends_refl σ }
 
 -- ---- a value appears
+
+-- what becomes of a value that appeared: ending 32 where there was no room for it
+abbrev pub took_of : Counts → Interned → Outcome
+took_of c (Found i) = Gave c i
+took_of c (Added i) = Gave (one_row c) i
+took_of c NoRoom = Full 32 c
 
 module _ (ρ : Room) (v : Value) (σ : State) where
   pub appears_again : present v σ.world.rows ≡ true → appear ρ v σ ≡ gave v σ

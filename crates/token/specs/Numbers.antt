@@ -4,7 +4,6 @@ use Rattle.model.specs.Policy.{meets}
 use Rattle.model.specs.Value.{Value, fresh, present}
 use Rattle.model.specs.declared.Step.{Step}
 use Rattle.values.specs.Holds.{Holds, rows_in}
-use Rattle.values.specs.Interned.{Interned, Found, Added, NoRoom}
 use Rattle.keys.specs.Stored.{stored_of}
 use Rattle.keys.specs.declared.KeyRecord.{KeyRecord}
 use Rattle.token.specs.declared.Counts.{Counts}
@@ -25,12 +24,6 @@ one_key true c = record { rows = c.rows; keys = c.keys + 1; atoms = c.atoms; gua
 one_key false c = record { rows = c.rows; keys = c.keys + 1; atoms = c.atoms; guards = c.guards }
 
 -- ---- appearing
-
--- what becomes of a value that appeared: ending 32 where there was no room for it
-abbrev pub took_of : Counts → Interned → Outcome
-took_of c (Found i) = Gave c i
-took_of c (Added i) = Gave (one_row c) i
-took_of c NoRoom = Full 32 c
 
 -- what is seen to before an atom is made
 abbrev pub AtomsFit : Token → Type 0

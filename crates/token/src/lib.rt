@@ -54,7 +54,7 @@ fn key_code(h: usize, k: usize, t: u8) -> u64
 
 // What is computed from the values in rows x and y appears; None where there is no room for it.
 fn computed(rows: &mut Filled<'_>, operation: Operation, x: usize, y: usize) -> Option<usize>
-    requires { (rows.old.len ≤ length rows.old.table.now) × (rows.old.len ≤ 65536) × OperandsBelow operation x y rows.old.len }
+    requires { (rows.old.len ≤ 65536) × OperandsBelow operation x y rows.old.len }
     ensures same_table { SameTable rows.old rows.new }
     ensures appears { (vs : List Value) → Holds rows.old.table.now vs → rows.old.len ≡ length vs
         → AppearedIn (compute operation (operands operation (value_at vs x) (value_at vs y))) vs result rows.old rows.new }
@@ -68,7 +68,7 @@ fn computed(rows: &mut Filled<'_>, operation: Operation, x: usize, y: usize) -> 
 
 // The stored key of the handle in row x, where its template has what the step asks for. It has a row already.
 fn get(keys: &Filled<'_>, s: Step, x: usize) -> Result<usize, Halt>
-    requires { (keys.now.len ≤ length keys.now.table.now) × (length keys.now.table.now ≤ 256) }
+    requires { length keys.now.table.now ≤ 256 }
     ensures { (c : Counts) → c.keys ≡ keys.now.len → outcome_told result c ≡ get_of keys.now.table.now c s x }
 {
     match keys::stored(keys, x) {
