@@ -23,7 +23,8 @@ handle_place : (keys : List ℕ) (n x : ℕ) → n ≤ length keys
     → position (λ code. eqb x (handle_of code)) (take n keys) ≡ cond (ltb (place keys n x) n) (Some (place keys n x)) None
 handle_place keys n x fits =
     let test : ℕ → Bool = λ code. eqb x (handle_of code) in
-    let same : place keys n x ≡ index_by test (take n keys) = rw take-map (index_of_map 0 handle_of (eqb x) test (take n keys) (λ k h. refl)) in
+    let same : place keys n x ≡ index_by test (take n keys) =
+    rw take-map (index_of_map 0 handle_of (eqb x) test (take n keys) (λ k h. refl)) in
     position_by_index test (take n keys) ∙ rw (same, length-take-le n keys fits)
 
 -- the key at the place where the search ends, or none
@@ -36,7 +37,8 @@ pub stored_by_place : (keys : List ℕ) (n x : ℕ) → n ≤ length keys → {o
 unfolding stored_of
 stored_by_place keys n x fits e = rw (e, handle_place keys n x fits) (go (ltb (place keys n x) n))
   where
-    go : (b : Bool) → record_told keys (cond b (Some (place keys n x)) None) ≡ cond b (Some (record_of (get_or keys (place keys n x) 0))) None
+    go : (b : Bool) → record_told keys (cond b (Some (place keys n x)) None)
+        ≡ cond b (Some (record_of (get_or keys (place keys n x) 0))) None
     go true = refl
     go false = refl
 

@@ -3,7 +3,7 @@
 use Prim.Native.Nat.{ℕ, ◌<◌}
 use mathlib.Core.Path.{◌≡◌, refl, sym, ap, ◌∙◌}
 use mathlib.Core.Bool.{Bool, true, false, cond}
-use mathlib.Core.List.{List, [], ◌∷◌, ◌++◌, append-nil}
+use mathlib.Core.List.{List, [], ◌∷◌, ◌++◌}
 use native.Mathlib.Omega.{arith}
 use lib.Dec.{ltb}
 use lib.ListN.{length, length-append}
@@ -43,20 +43,11 @@ answer_says : (len : ℕ) (v : Value) (vs : List Value) → Says len v vs (answe
 unfolding answer_in rows_in
 answer_says len v vs = go (present v vs) (ltb (length vs) len) refl refl
   where
-    go : (b c : Bool) → present v vs ≡ b → ltb (length vs) len ≡ c → Says len v vs (cond b (Found (row_of v vs)) (cond c (Added (length vs)) NoRoom))
+    go : (b c : Bool) → present v vs ≡ b → ltb (length vs) len ≡ c
+        → Says len v vs (cond b (Found (row_of v vs)) (cond c (Added (length vs)) NoRoom))
     go true c e f = record { there = e; row = refl; rows = rw e }
     go false true e f = record { new = e; room = f; row = refl; rows = rw (e, f) }
     go false false e f = record { new = e; full = f; rows = rw (e, f) }
-
--- rows are only added
-pub rows_extended : (len : ℕ) (v : Value) (vs : List Value) → (ws : List Value) × (rows_in len v vs ≡ vs ++ ws)
-unfolding rows_in
-rows_extended len v vs = go (present v vs) (ltb (length vs) len)
-  where
-    go : (b c : Bool) → (ws : List Value) × (cond b vs (cond c (vs ++ v ∷ []) vs) ≡ vs ++ ws)
-    go true c = ([], sym (append-nil vs))
-    go false true = (v ∷ [], refl)
-    go false false = ([], sym (append-nil vs))
 
 -- v has row i of the rows us
 pub record HasRow (v : Value) (us : List Value) (i : ℕ) : Type 0 where

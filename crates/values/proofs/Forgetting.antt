@@ -21,14 +21,20 @@ module _ (t : List ℕ) (from to : ℕ) (le : from ≤ to) (fits : to ≤ length
       let long = length-take-le to t fits in
       ap (drop to) (rw long at e) ∙ subst (λ n. drop n (take to t ++ rest) ≡ rest) long (drop-append_seam (take to t) rest)
 
-  pub forgets_by_fill : (filled : List ℕ) → filled ≡ replicate (length (take (to - from) (drop from t))) 0
-      → Forgets from to t (take from t ++ (filled ++ drop (to - from) (drop from t)))
+  part_forgotten : Forgets from to t (take from t ++ (replicate (to - from) 0 ++ drop to t))
   unfolding padded
-  forgets_by_fill filled e =
+  part_forgotten =
       let before : length (take from t) ≡ from = length-take-le from t (omega arith) in
-      let part : length (take (to - from) (drop from t)) ≡ to - from = length-take-le (to - from) (drop from t) (omega (arith, length-drop from t)) in
-      rw (e, part, after_part)
-      (record {
+      record {
         length_kept = simp (length-append, length-replicate, length-drop, before) (omega arith);
-        cut = λ g. rw (zeros_after_cut g, replicate-append-replicate, before) (ap (λ n. take from t ++ replicate n 0) (omega arith));
-      })
+        cut = λ e.
+            rw (zeros_after_cut e, replicate-append-replicate, before) (ap (λ n. take from t ++ replicate n 0) (omega arith));
+      }
+
+  -- the part from a on and below b, filled with zeros
+  pub forgets_by_fill : (a b : ℕ) → a ≡ from → b ≡ to → (filled : List ℕ)
+      → filled ≡ replicate (length (take (b - a) (drop a t))) 0 → Forgets from to t (take a t ++ (filled ++ drop (b - a) (drop a t)))
+  forgets_by_fill a b e f filled zero =
+      let part : length (take (to - from) (drop from t)) ≡ to - from =
+      length-take-le (to - from) (drop from t) (omega (arith, length-drop from t)) in
+      rw (zero, e, f, part, after_part) part_forgotten

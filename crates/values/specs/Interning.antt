@@ -20,7 +20,7 @@ intern_answer t n x =
 unfoldable pub intern_table : List ℕ → ℕ → ℕ → List ℕ
 intern_table t n x = cond (ltb (index_by (eqb x) (take n t)) n) t (add_table t n x)
 
--- what add_code comes to, and what intern does
+-- what becomes of a number that is put into the next place, and of one that is looked for first
 pub record Stored (t : List ℕ) (n x : ℕ) (r : Interned) (exit : List ℕ) : Type 0 where
   pub answer : r ≡ add_answer t n
   pub table : exit ≡ add_table t n x

@@ -140,8 +140,7 @@ pub fn appear_new(rows: &mut Filled<'_>, k: usize) -> Option<usize>
     ensures with_room { rows.old.len < length rows.old.table.now → Pushed rows.old (packed 2 0 k) result rows.new }
     ensures full { length rows.old.table.now ≤ rows.old.len → NotPushed rows.old result rows.new }
 {
-    let x = Row::Fresh(k).code();
-    rows.push(x)
+    rows.push(Row::Fresh(k).code())
 }
 
 // The encryption of row a under row b appears.

@@ -9,4 +9,4 @@ pub returns-clause-appears : goal.returns-clause-appears
 returns-clause-appears c =
     λ vs H count new.
     stored_appears c.args.rows.now H count (fresh _) c.requires.1 new
-    (rw c.code-x.ensures at (stored_by_push c.push.ensures.with_room c.push.ensures.full))
+    (rw c.code.ensures at (stored_by_push c.push.ensures.with_room c.push.ensures.full))

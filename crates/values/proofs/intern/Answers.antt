@@ -6,9 +6,11 @@ use Rattle.values.proofs.intern.Goals as goal
 
 pub returns-in-Some-clause-interns : goal.returns-in-Some-clause-interns
 returns-in-Some-clause-interns c =
-    rw (← c.code-x.ensures) (interns_found c.args.rows.now c.code-x.result c.requires.0 (sym c.in-Some.is ∙ c.find_code.ensures))
+    let t = c.args.rows.now in
+    rw (← c.code-x.ensures) (interns_found t c.code-x.result c.requires.0 (sym c.in-Some.is ∙ c.find_code.ensures))
 
 pub returns-clause-interns : goal.returns-clause-interns
 returns-clause-interns c =
-    rw (← c.code-x.ensures)
-    (interns_added c.args.rows.now c.code-x.result c.requires.0 (sym c.in_default.is ∙ c.find_code.ensures) (stored_by_push c.push.ensures.with_room c.push.ensures.full))
+    let t = c.args.rows.now in
+    let put = stored_by_push c.push.ensures.with_room c.push.ensures.full in
+    rw (← c.code-x.ensures) (interns_added t c.code-x.result c.requires.0 (sym c.in_default.is ∙ c.find_code.ensures) put)
