@@ -151,6 +151,7 @@ fn codes_constant(x: u64) -> bool
 }
 
 // Whether a row is a constant.
+#[tactic(auto, using(crate::proofs::Steps::constant_by_number))]
 pub fn is_constant(rows: &[u64], i: usize) -> bool
     requires { i < length rows.now }
     ensures { (vs : List Value) → Holds rows.now vs → i < length vs → result ≡ is_const (value_at vs i) }
