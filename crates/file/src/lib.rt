@@ -52,6 +52,7 @@ fn read_frames(input: &[u8], tables: &mut FileTables<'_>) -> Result<Contents, Re
         commands: 0,
         lines: 0,
     };
+    // Kept: where a line ends is known once it is scanned, so no range gives the places, and scanning needs the whole input.
     while at < input.len() {
         let line = text::scan_line(input, at, &mut buffer).ok_or(Refusal {
             fault: Fault::BadLine,
@@ -127,7 +128,15 @@ fn right_lengths(
     commands: &[u64],
     steps: &[u64],
 ) -> bool
-    ensures { result ≡ right_lengths (record { rows = rows.now; keys = keys.now; heads = heads.now; arguments = arguments.now; outcomes = outcomes.now; commands = commands.now; steps = steps.now }) }
+    ensures { result ≡ right_lengths (record {
+      rows = rows.now;
+      keys = keys.now;
+      heads = heads.now;
+      arguments = arguments.now;
+      outcomes = outcomes.now;
+      commands = commands.now;
+      steps = steps.now;
+    }) }
 {
     rows.len() == 4096
         && keys.len() == 256
