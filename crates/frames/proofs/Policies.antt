@@ -70,7 +70,8 @@ module _ (set : ℕ) where
 module _ (f : List ℕ) (kind : byte_at f 0 ≡ 1) where
   policy_refused : (x : ℕ) → body_refusal nothing_read.file policy_kind f ≡ suc x → (n m : ℕ) (h a k s : List ℕ)
       → Takes 0 n m f (turn.Refused (suc x)) h a k s h a k s
-  policy_refused x e n m h a k s c counted held = refused (suc x) (is_in_place f (is_policy f kind) counted refl ∙ e) (λ q. omega arith) held
+  policy_refused x e n m h a k s c counted held =
+      refused (suc x) (is_in_place f (is_policy f kind) counted refl ∙ e) (λ q. omega arith) held
 
   pub policy_length : (length f ≡ 10 → ⊥) → (n m : ℕ) (h a k s : List ℕ) → Takes 0 n m f (turn.Refused 4) h a k s h a k s
   policy_length h = policy_refused 3 (rw (ne_eqb (length f) 10 h))

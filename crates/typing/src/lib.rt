@@ -87,7 +87,10 @@ fn check_step(policy: Policy, s: Step, x: Ty, y: Ty) -> Result<(), Rule>
             unless(policy.allows(s.t), Rule::TemplateAllowed)?;
             unless(store_ok(x, s.t), Rule::Store)
         }
-        Op::Compute(Operation::Encrypt) => unless(encrypt_ok(policy.transported, x, y), Rule::Encrypt),
+        Op::Compute(Operation::Encrypt) => unless(
+            encrypt_ok(policy.transported, x, y),
+            Rule::Encrypt,
+        ),
         Op::Compute(Operation::Decrypt) => unless(decrypt_ok(x, y), Rule::Decrypt),
         Op::Compute(Operation::Derive(_)) => unless(derive_ok(y), Rule::Derive),
         Op::Unknown => Err(Rule::KnownOp),
