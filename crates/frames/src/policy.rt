@@ -1,6 +1,5 @@
 // The policy frame: the transported type and the set of allowed templates.
 ghost use Rattle.std.specs.Prelude.{◌≡◌, List, ℕ, length};
-ghost use Rattle.model.specs.declared.Ty.TheVariants.{Un};
 ghost use Rattle.model.specs.Policy.{lawful};
 ghost use Rattle.model.specs.Text.{number_from};
 ghost use Rattle.model.specs.Frame.{byte_at};
@@ -10,17 +9,11 @@ ghost use Rattle.frames.specs.Parts.{Takes};
 use crate::Turn;
 use model::{Fault, Policy, Ty};
 
-// No template of the set has A, which weighs 2, without S, which weighs 1.
-#[tactic(auto, using(crate::proofs::Policies::judging))]
-fn is_lawful(set: u64) -> bool
-    ensures { result ≡ lawful (record { transported = Un; allowing = set }) }
+// No template that is allowed has A, which weighs 2, without S, which weighs 1.
+fn is_lawful(policy: Policy) -> bool
+    ensures { result ≡ lawful policy }
 {
-    for m in 0..64u64 {
-        if m % 4 == 2 && (set >> m) % 2 == 1 {
-            return false;
-        }
-    }
-    true
+    !(0..64).any(|m| m % 4 == 2 && policy.allows(m))
 }
 
 // Numbers are big-endian.
@@ -41,12 +34,12 @@ pub fn policy_turn(f: &[u8]) -> Result<Turn, Fault>
     if f.len() != 10 || f[1] > 5 {
         return Err(Fault::Malformed);
     }
-    let allowing = number(&f[2..]);
-    if !is_lawful(allowing) {
+    let policy = Policy {
+        transported: Ty::from_code(f[1]),
+        allowing: number(&f[2..]),
+    };
+    if !is_lawful(policy) {
         return Err(Fault::Unlawful);
     }
-    Ok(Turn::Policy(Policy {
-        transported: Ty::from_code(f[1]),
-        allowing,
-    }))
+    Ok(Turn::Policy(policy))
 }
