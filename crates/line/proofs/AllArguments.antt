@@ -1,4 +1,5 @@
--- The arguments of a line, one after the other: what the loop over them has in hand, and that what is left of them gives what the whole does.
+-- The arguments of a line, one after the other: what the loop over them has in hand, and that what is left of them gives what the whole
+-- does.
 -- Assumes nothing.
 use Prim.Native.Nat.{ℕ, ◌+◌, ◌*◌, ◌/◌, ◌%◌, ◌≤◌, ◌<◌}
 use mathlib.Core.Path.{◌≡◌, refl, sym, ap, subst, ◌∙◌}
@@ -20,7 +21,8 @@ use Rattle.token.specs.declared.Halt.{Halt}
 use Rattle.token.specs.declared.Token.{Token}
 use Rattle.token.proofs.Undoing.{extends_refl, extends_trans}
 use Rattle.line.specs.Stages.{ArgumentGiven, ArgumentReady, Valued, ArgumentsGiven, ArgumentsReady, AllTaken}
-use Rattle.line.proofs.States.{same_tables_refl, same_tables_trans, same_room, rows_length, performs_from_earlier, goes_on_with_row, stands_after, ends_with_halt, values_go_on}
+use Rattle.line.proofs.States.{same_tables_refl, same_tables_trans, same_room, rows_length, performs_from_earlier, goes_on_with_row}
+use Rattle.line.proofs.States.{stands_after, ends_with_halt, values_go_on}
 use Rattle.line.proofs.OneArgument.{argument_ready, finishing_kept}
 
 -- ---- the next argument
@@ -122,7 +124,8 @@ module _ {before : Token} {outcomes : List ℕ} {args count : ℕ} {t : Token} {
       whole : (then : List Value → State → Out) → with_arguments (room_in before) fs args₀ [] σ₀ then
           ≡ and_then out (λ v σ'. with_arguments (room_in before) fs next.rest (reached.vs ++ v ∷ []) σ' then)
 
-    turned : (σ₀ : State) (fs : List Finished) (args₀ : List Arg) → ArgumentsGiven σ₀ fs args₀ before outcomes args 0 count → Turned σ₀ fs args₀
+    turned : (σ₀ : State) (fs : List Finished) (args₀ : List Arg) → ArgumentsGiven σ₀ fs args₀ before outcomes args 0 count
+        → Turned σ₀ fs args₀
     unfolding with_arguments
     turned σ₀ fs args₀ G =
         let reached = L.reached σ₀ fs args₀ G in
@@ -132,7 +135,8 @@ module _ {before : Token} {outcomes : List ℕ} {args count : ℕ} {t : Token} {
           reached = reached;
           next = next;
           out = appearing ρ (argument fs next.a) reached.σ;
-          performs = subst (λ (x : Room). PerformsIn reached.σ (appearing x (argument fs next.a) reached.σ) o exit) (same_room before t L.same_tables)
+          performs = subst (λ (x : Room). PerformsIn reached.σ (appearing x (argument fs next.a) reached.σ) o exit)
+              (same_room before t L.same_tables)
               (did reached.σ fs next.a next.given);
           whole = λ then. reached.same then ∙ ap (λ l. with_arguments ρ fs l reached.vs reached.σ then) next.split;
         }
@@ -173,11 +177,14 @@ module _ {before : Token} {outcomes : List ℕ} {args count : ℕ} {t : Token} {
           extends = extends_trans turn.reached.extends went.extends;
           valued = values_go_on exit turn.reached.valued went (sym turn.reached.made) (omega (arith, L.twenty));
           made = length-append vs (went.value ∷ []) ∙ ap (λ n. n + 1) turn.reached.made;
-          same = λ then. turn.whole then ∙ ap (λ x. and_then x (λ v σ'. with_arguments (room_in before) fs next.rest (vs ++ v ∷ []) σ' then)) went.is;
+          same = λ then.
+              turn.whole then
+              ∙ ap (λ x. and_then x (λ v σ'. with_arguments (room_in before) fs next.rest (vs ++ v ∷ []) σ' then)) went.is;
         };
   }
 
-  pub all_are_taken : count ≤ i → (σ₀ : State) (fs : List Finished) (args₀ : List Arg) → ArgumentsGiven σ₀ fs args₀ before outcomes args 0 count
+  pub all_are_taken : count ≤ i → (σ₀ : State) (fs : List Finished) (args₀ : List Arg)
+      → ArgumentsGiven σ₀ fs args₀ before outcomes args 0 count
       → AllTaken (room_in before) σ₀ fs args₀ t values
   unfolding with_arguments
   all_are_taken h σ₀ fs args₀ G =

@@ -36,7 +36,8 @@ use Rattle.line.proofs.States.{rows_counted, stop_performs}
 module _ {σ : State} {t : Token} (S : Stands σ t) where
   constant_appears : (k : ℕ) (r : Option ℕ) {f g : Filled} → t.used.rows ≡ f.len → f.table.now ≡ t.rows.now
       → AppearedIn (const k) σ.world.rows r f g → {w : List ℕ} → w ≡ g.table.now
-      → Performs σ (appear (room_in t) (const k) σ) (outcome_told (ok_or r (halt.Full Rows)) (record t.used { rows = g.len })) w t.keys.now t.guards.now
+      → Performs σ (appear (room_in t) (const k) σ) (outcome_told (ok_or r (halt.Full Rows)) (record t.used { rows = g.len }))
+      w t.keys.now t.guards.now
   constant_appears k r count table A exit =
       rw (row_told t.used count (sym count ∙ rows_counted S) A)
       (appears (room_in t) refl S.carries S.counts_are (rw (table, ← exit) at A.appeared)
@@ -140,7 +141,8 @@ module _ {σ : State} {fs : List Finished} {t : Token} {outcomes : List ℕ} {n 
   pub constant_is_taken : 0x8000 ≤ n → (r : Option ℕ) {f g : Filled} → t.used.rows ≡ f.len → f.table.now ≡ t.rows.now
       → ((vs : List Value) → Holds f.table.now vs → f.len ≡ length vs → AppearedIn (const (n % 0x8000)) vs r f g)
       → {w : List ℕ} (a : Arg) → ArgumentGiven σ fs a t outcomes n → w ≡ g.table.now
-      → Performs σ (appearing (room_in t) (argument fs a) σ) (outcome_told (ok_or r (halt.Full Rows)) (record t.used { rows = g.len })) w t.keys.now t.guards.now
+      → Performs σ (appearing (room_in t) (argument fs a) σ) (outcome_told (ok_or r (halt.Full Rows)) (record t.used { rows = g.len }))
+      w t.keys.now t.guards.now
   constant_is_taken high r count table appeared (constant k) G exit =
       let small = ltb→lt k 0x8000 G.read in
       let same : n % 0x8000 ≡ k = omega (arith, G.code_is) in

@@ -106,7 +106,8 @@ module _ {rows vs : List Value} {values : List ℕ} (held : Valued rows vs value
         (rw here (held.has_row i l), rw (here, get_or-append vs (v ∷ []) (const 0) i l) (held.is i l))
     row_then i h (no l) =
         let last : i ≡ length vs = omega (arith, length-append vs (v ∷ [])) in
-        let here : get_or (set values n row) i 0 ≡ row = ap (λ k. get_or (set values n row) k 0) (last ∙ sym next) ∙ get_or-set_same values n row 0 room in
+        let here : get_or (set values n row) i 0 ≡ row =
+        ap (λ k. get_or (set values n row) k 0) (last ∙ sym next) ∙ get_or-set_same values n row 0 room in
         (rw here within, rw (here, get_or_at vs v [] (const 0) i (sym last)) at)
 
     pub values_with_one_more : Valued rows (vs ++ v ∷ []) (set values n row)

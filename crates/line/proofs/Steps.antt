@@ -1,4 +1,5 @@
--- The steps of a command, one after the other: what the loop over them has in hand, and that what is left of them gives what the whole does.
+-- The steps of a command, one after the other: what the loop over them has in hand, and that what is left of them gives what the whole
+-- does.
 -- Assumes nothing.
 use Prim.Native.Nat.{ℕ, suc, ◌+◌, ◌≤◌, ◌<◌}
 use mathlib.Core.Path.{◌≡◌, refl, sym, ap, ap₂, subst, ◌∙◌}
@@ -27,7 +28,9 @@ use Rattle.token.specs.declared.Halt.TheVariants as halt
 use Rattle.token.specs.declared.Token.{Token}
 use Rattle.token.proofs.Undoing.{extends_refl, extends_trans}
 use Rattle.line.specs.Stages.{Valued, StepsGiven, StepsReady}
-use Rattle.line.proofs.States.{same_tables_refl, same_tables_trans, same_room, rows_length, keys_length, ready_where_it_stands, rows_counted, performs_from_earlier, stop_performs, goes_on_with_row, stands_after, ends_with_halt, values_go_on}
+use Rattle.line.proofs.States.{same_tables_refl, same_tables_trans, same_room, rows_length, keys_length, ready_where_it_stands}
+use Rattle.line.proofs.States.{rows_counted, performs_from_earlier, stop_performs, goes_on_with_row, stands_after, ends_with_halt}
+use Rattle.line.proofs.States.{values_go_on}
 
 -- ---- a step uses only the values that its op names
 
@@ -101,7 +104,9 @@ next_of {σ} {vs} {part = part} {i} {values = values} (s ∷ rest) G h =
         b_named = used_has_row G.valued s.b uses.b b_named counted;
         t_byte = omega (arith, ap (λ (x : Step). x.t) read);
       };
-      same = λ ρ. performs_by_what_it_uses ρ (op_of s) s _ _ _ _ σ (used_is_same G.valued s.a uses.a a_named) (used_is_same G.valued s.b uses.b b_named);
+      same = λ ρ.
+          performs_by_what_it_uses ρ (op_of s) s _ _ _ _ σ
+          (used_is_same G.valued s.a uses.a a_named) (used_is_same G.valued s.b uses.b b_named);
       rest_count = omega (arith, G.count_is);
       rest_codes = λ j l.
           let later : i + 1 + j ≡ i + suc j = omega arith in
@@ -116,7 +121,8 @@ none_left (s ∷ rest) h = absurd (omega arith)
 -- ---- the loop
 
 -- from the steps ss₀, the values vs₀ and the state σ₀ the call came to what is left and to the state now
-pub record Reached (ρ : Room) (σ₀ : State) (ss₀ : List Step) (vs₀ : List Value) (t : Token) (part : List ℕ) (i params : ℕ) (values : List ℕ) : Type 0 where
+pub record Reached (ρ : Room) (σ₀ : State) (ss₀ : List Step) (vs₀ : List Value) (t : Token)
+    (part : List ℕ) (i params : ℕ) (values : List ℕ) : Type 0 where
   pub σ : State
   pub ss : List Step
   pub vs : List Value
@@ -130,7 +136,8 @@ pub record Running (before : Token) (part : List ℕ) (params : ℕ) (values₀ 
   pub reached : (σ : State) (ss : List Step) (vs : List Value) → StepsGiven σ ss vs before part 0 params values₀
       → Reached (room_in before) σ ss vs t part i params values
 
-pub running_begins : {t : Token} {part : List ℕ} {params : ℕ} {values : List ℕ} → length values ≡ 20 → Running t part params values t values 0
+pub running_begins : {t : Token} {part : List ℕ} {params : ℕ} {values : List ℕ} → length values ≡ 20
+    → Running t part params values t values 0
 running_begins {t} twenty = record {
   same_tables = same_tables_refl t;
   twenty = twenty;
@@ -146,7 +153,8 @@ module _ {before : Token} {part : List ℕ} {params : ℕ} {values₀ : List ℕ
     next_is_ready R =
         let reached = L.reached R.σ R.ss R.vs R.given in
         let next = next_of reached.ss reached.given h in
-        let named = subst (λ (z : Step). Named z (get_or values z.a 0) (get_or values z.b 0) t.used.rows) (sym (s_is ∙ next.read_is)) next.named in (
+        let by_step : Step → Type 0 = λ z. Named z (get_or values z.a 0) (get_or values z.b 0) t.used.rows in
+        let named = subst by_step (sym (s_is ∙ next.read_is)) next.named in (
           ready_where_it_stands reached.given.stands
               (omega (arith, rows_length before t L.same_tables, R.rows_small))
               (omega (arith, keys_length before t L.same_tables, R.keys_small)),
@@ -173,15 +181,18 @@ module _ {before : Token} {part : List ℕ} {params : ℕ} {values₀ : List ℕ
           let next = next_of reached.ss reached.given h in
           let σ = reached.σ in
           let ρ = room_in before in
-          let by_rows : Room → Step → ℕ → ℕ → Out = λ room z j k. perform room (op_of z) z (value_at σ.world.rows j) (value_at σ.world.rows k) σ in
-          let same_out : by_rows (room_in t) s x y ≡ perform ρ (op_of next.s) next.s (value_at reached.vs next.s.a) (value_at reached.vs next.s.b) σ =
+          let by_rows : Room → Step → ℕ → ℕ → Out =
+          λ room z j k. perform room (op_of z) z (value_at σ.world.rows j) (value_at σ.world.rows k) σ in
+          let out : Out = perform ρ (op_of next.s) next.s (value_at reached.vs next.s.a) (value_at reached.vs next.s.b) σ in
+          let by_step : Step → Room → Out = λ z r. by_rows r z (get_or values z.a 0) (get_or values z.b 0) in
+          let same_out : by_rows (room_in t) s x y ≡ out =
           ap₂ (by_rows (room_in t) s) x_is y_is
-          ∙ ap₂ (λ z (r : Room). by_rows r z (get_or values z.a 0) (get_or values z.b 0)) (s_is ∙ next.read_is) (same_room before t L.same_tables)
+          ∙ ap₂ by_step (s_is ∙ next.read_is) (same_room before t L.same_tables)
           ∙ next.same ρ in
           record {
             reached = reached;
             next = next;
-            out = perform ρ (op_of next.s) next.s (value_at reached.vs next.s.a) (value_at reached.vs next.s.b) σ;
+            out = out;
             performs = subst (λ (u : Out). PerformsIn σ u o exit) same_out (did σ reached.given.stands);
             whole = reached.same ∙ ap (λ l. run_steps ρ l reached.vs σ) next.split;
           }
@@ -227,7 +238,8 @@ module _ {before : Token} {part : List ℕ} {params : ℕ} {values₀ : List ℕ
       }
 
   -- after the last step without a return the call stops
-  pub steps_run_out : length part ≤ i → (σ₀ : State) (ss₀ : List Step) (vs₀ : List Value) → StepsGiven σ₀ ss₀ vs₀ before part 0 params values₀
+  pub steps_run_out : length part ≤ i → (σ₀ : State) (ss₀ : List Step) (vs₀ : List Value)
+      → StepsGiven σ₀ ss₀ vs₀ before part 0 params values₀
       → PerformsIn σ₀ (run_steps (room_in before) ss₀ vs₀ σ₀) (Err halt.Stopped) t
   unfolding run_steps
   steps_run_out h σ₀ ss₀ vs₀ G =

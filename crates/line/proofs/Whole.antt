@@ -29,7 +29,8 @@ use Rattle.token.specs.Carried.{PerformsIn, ReadyIn, Stands, room_in}
 use Rattle.token.specs.declared.Halt.{Halt}
 use Rattle.token.specs.declared.Token.{Token}
 use Rattle.line.specs.Lined.{LineGiven, LineReady}
-use Rattle.line.specs.Stages.{act_from, head_from, ArgumentsGiven, ArgumentsReady, AllTaken, Taken, StepsGiven, StepsReady, OperandsReady, step_at, second_of, computed}
+use Rattle.line.specs.Stages.{act_from, head_from, ArgumentsGiven, ArgumentsReady, AllTaken, Taken, StepsGiven, StepsReady, OperandsReady}
+use Rattle.line.specs.Stages.{step_at, second_of, computed}
 use Rattle.line.specs.declared.Act.{Act}
 use Rattle.line.specs.declared.Act.TheVariants.{Call, Compute}
 use Rattle.line.specs.declared.Head.{Head}
@@ -85,7 +86,8 @@ read_in_parts cs n l h =
     go (computes o args) h = h
 
 -- a call's command is there and has as many parameters as the call has arguments
-called : (cs : List Command) (n k : ℕ) (args : List Arg) → Read cs n (calls k args) → (k < length cs) × (length args ≡ (command_at cs k).params)
+called : (cs : List Command) (n k : ℕ) (args : List Arg) → Read cs n (calls k args)
+    → (k < length cs) × (length args ≡ (command_at cs k).params)
 called cs n k args R =
     let there : Bool = ltb k (length cs) in
     let many : Bool = eqb (length args) (command_at cs k).params in
@@ -180,8 +182,8 @@ module _ {σ : State} {cs : List Command} {fs : List Finished} {l : Line} {t : T
 
     pub command_is_within : k < length commands
     command_is_within =
-        let long = ap length G.commands_are ∙ length_padded 32 (map command_code cs) (omega (arith, G.few_commands, length-map cs command_code)) in
-        omega (arith, long, line_calls.0, G.few_commands)
+        let few : length (map command_code cs) ≤ 32 = omega (arith, G.few_commands, length-map cs command_code) in
+        omega (arith, ap length G.commands_are, length_padded 32 (map command_code cs) few, line_calls.0, G.few_commands)
 
     command_is_read : Sound command
     command_is_read = read_at cs k G.commands_read line_calls.0
@@ -191,7 +193,9 @@ module _ {σ : State} {cs : List Command} {fs : List Finished} {l : Line} {t : T
 
     places_long : 16 ≤ length (drop (16 * k) steps)
     places_long =
-        omega (arith, ap length places, length-take 16 (drop (16 * k) steps), length_padded 16 (map step_code command.steps) (omega (arith, command_is_read.few_steps, length-map command.steps step_code)))
+        let codes = map step_code command.steps in
+        let few : length codes ≤ 16 = omega (arith, command_is_read.few_steps, length-map command.steps step_code) in
+        omega (arith, ap length places, length-take 16 (drop (16 * k) steps), length_padded 16 codes few)
 
     module _ {count : ℕ} (counted : count ≡ min (get_or commands k 0 / 256) 16) where
       steps_counted : count ≡ length command.steps
@@ -217,7 +221,8 @@ module _ {σ : State} {cs : List Command} {fs : List Finished} {l : Line} {t : T
       steps_read j h =
           let all = drop (16 * k) steps in
           let part = take 16 all in
-          let decoded : command_from (get_or commands k 0) part ≡ command = rw (G.commands_are, G.steps_are) (command_decoded cs G.commands_read k line_calls.0) in
+          let decoded : command_from (get_or commands k 0) part ≡ command =
+          rw (G.commands_are, G.steps_are) (command_decoded cs G.commands_read k line_calls.0) in
           let here : get_or (part_for k count steps) j 0 ≡ get_or part j 0 =
           ap (λ xs. get_or xs j 0) part_is
           ∙ get_or-take count all j 0 (omega (arith, steps_counted))
@@ -260,7 +265,8 @@ module _ {σ : State} {cs : List Command} {fs : List Finished} {l : Line} {t : T
         codes_are = λ j h.
             let here : 0 + j ≡ j = omega arith in
             rw here (steps_read is counted j h);
-        named = subst (λ m. T (names_made m (command is).steps)) (sym (all_taken.as_many ∙ (line_calls is).1)) (command_is_read is).made_names;
+        named = subst (λ m. T (names_made m (command is).steps)) (sym (all_taken.as_many ∙ (line_calls is).1))
+            (command_is_read is).made_names;
       }
 
       pub steps_are_ready : ReadyIn t → StepsReady t' (part_for k count steps) h.count values
@@ -282,7 +288,8 @@ module _ {σ : State} {cs : List Command} {fs : List Finished} {l : Line} {t : T
           → PerformsIn σ (run_line (room_in t) cs fs l σ) o exit
       line_runs_steps o exit ran =
           let many = all_taken.as_many ∙ (line_calls is).1 in
-          let runs : goes_further (room_in t') cs (Call k) all_taken.vs all_taken.σ' ≡ run_steps (room_in t') (command is).steps all_taken.vs all_taken.σ' =
+          let runs : goes_further (room_in t') cs (Call k) all_taken.vs all_taken.σ'
+          ≡ run_steps (room_in t') (command is).steps all_taken.vs all_taken.σ' =
           rw (eq-eqb (length all_taken.vs) (command is).params many) in
           performs_from_earlier all_taken.extends (goes_on_with_values is ∙ runs)
           (ran all_taken.σ' (command is).steps all_taken.vs steps_given)
@@ -312,7 +319,9 @@ module _ {σ : State} {cs : List Command} {fs : List Finished} {l : Line} {t : T
 
       pub line_computes_value : (o : Result ℕ Halt) (exit : Token)
           → ((τ : State) → Stands τ t'
-          → PerformsIn τ (computed (room_in t') a (value_at τ.world.rows (get_or values 0 0)) (value_at τ.world.rows (get_or values (second_of a) 0)) τ) o exit)
+          → PerformsIn τ
+          (computed (room_in t') a (value_at τ.world.rows (get_or values 0 0)) (value_at τ.world.rows (get_or values (second_of a) 0)) τ)
+          o exit)
           → PerformsIn σ (run_line (room_in t) cs fs l σ) o exit
       line_computes_value o exit did =
           let ρ = room_in t' in

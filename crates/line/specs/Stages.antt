@@ -58,7 +58,8 @@ pub record Valued (rows vs : List Value) (values : List ℕ) : Type 0 where
   pub is : (i : ℕ) → i < length vs → value_at rows (get_or values i 0) ≡ value_at vs i
 
 -- the arguments from place i on, of count in all; `left` codes them
-pub record ArgumentsGiven (σ : State) (fs : List Finished) (args : List Arg) (t : Token) (outcomes : List ℕ) (left i count : ℕ) : Type 0 where
+pub record ArgumentsGiven (σ : State) (fs : List Finished) (args : List Arg) (t : Token)
+    (outcomes : List ℕ) (left i count : ℕ) : Type 0 where
   pub stands : Stands σ t
   pub finishing : Finishing fs σ.world.rows outcomes
   pub read : T (every arg_read args)
@@ -96,7 +97,8 @@ abbrev pub step_at : List Step → ℕ → Step
 step_at ss i = get_or ss i (record { op = 0; a = 0; b = 0; t = 0 })
 
 -- the steps from place i of the command's part of the table on, after the values vs
-pub record StepsGiven (σ : State) (ss : List Step) (vs : List Value) (t : Token) (part : List ℕ) (i params : ℕ) (values : List ℕ) : Type 0 where
+pub record StepsGiven (σ : State) (ss : List Step) (vs : List Value) (t : Token)
+    (part : List ℕ) (i params : ℕ) (values : List ℕ) : Type 0 where
   pub stands : Stands σ t
   pub valued : Valued σ.world.rows vs values
   pub made : length vs ≡ params + i

@@ -12,7 +12,8 @@ ghost use Rattle.model.specs.declared.Step.{Step};
 ghost use Rattle.token.specs.Outcome.{SameTables};
 ghost use Rattle.token.specs.Carried.{PerformsIn, Stands, room_in};
 ghost use Rattle.line.specs.Lined.{LineGiven, LineReady};
-ghost use Rattle.line.specs.Stages.{head_from, earlier_from, ArgumentGiven, ArgumentReady, ArgumentsGiven, ArgumentsReady, Taken, StepsGiven, StepsReady, OperandsReady, second_of, computed};
+ghost use Rattle.line.specs.Stages.{head_from, earlier_from, ArgumentGiven, ArgumentReady, ArgumentsGiven, ArgumentsReady, Taken};
+ghost use Rattle.line.specs.Stages.{StepsGiven, StepsReady, OperandsReady, second_of, computed};
 
 use model::{Full, Operation, Step};
 use token::{Halt, Token};
@@ -61,7 +62,8 @@ fn earlier_row(code: u64) -> Option<usize>
 // One argument: its highest bit says that the other fifteen are a constant, and they are an earlier line's number otherwise.
 fn argument(token: &mut Token<'_>, outcomes: &[u64], code: usize) -> Result<usize, Halt>
     requires { ArgumentReady token.old outcomes.now code }
-    ensures performs { (σ : State) (fs : List Finished) (a : Arg) → ArgumentGiven σ fs a token.old outcomes.now code → PerformsIn σ (appearing (room_in token.old) (named fs a) σ) result token.new }
+    ensures performs { (σ : State) (fs : List Finished) (a : Arg) → ArgumentGiven σ fs a token.old outcomes.now code
+        → PerformsIn σ (appearing (room_in token.old) (named fs a) σ) result token.new }
     ensures same_tables { SameTables token.old token.new }
 {
     if code >= 0x8000 {
@@ -84,7 +86,8 @@ fn take_arguments(
     count: usize,
 ) -> Result<[usize; 20], Halt>
     requires { ArgumentsReady token.old outcomes.now args count }
-    ensures taken { (σ : State) (fs : List Finished) (asked : List Arg) → ArgumentsGiven σ fs asked token.old outcomes.now args 0 count → Taken (room_in token.old) σ fs asked result token.new }
+    ensures taken { (σ : State) (fs : List Finished) (asked : List Arg) → ArgumentsGiven σ fs asked token.old outcomes.now args 0 count
+        → Taken (room_in token.old) σ fs asked result token.new }
     ensures same_tables { SameTables token.old token.new }
 {
     let mut values = [0; 20];
@@ -112,7 +115,8 @@ fn run_steps(
     arguments: [usize; 20],
 ) -> Result<usize, Halt>
     requires { StepsReady token.old steps.now params arguments }
-    ensures performs { (σ : State) (ss : List Step) (vs : List Value) → StepsGiven σ ss vs token.old steps.now 0 params arguments → PerformsIn σ (run_steps (room_in token.old) ss vs σ) result token.new }
+    ensures performs { (σ : State) (ss : List Step) (vs : List Value) → StepsGiven σ ss vs token.old steps.now 0 params arguments
+        → PerformsIn σ (run_steps (room_in token.old) ss vs σ) result token.new }
     ensures same_tables { SameTables token.old token.new }
 {
     let mut values = arguments;
@@ -139,7 +143,11 @@ fn second_operand(operation: Operation) -> usize
 // An operation of the attacker's own, on the line's arguments; the line ends with its value.
 fn compute(token: &mut Token<'_>, operation: Operation, values: &[usize]) -> Result<usize, Halt>
     requires { OperandsReady token.old operation values.now }
-    ensures performs { (σ : State) → Stands σ token.old → PerformsIn σ (computed (room_in token.old) operation (value_at σ.world.rows (get_or values.now 0 0)) (value_at σ.world.rows (get_or values.now (second_of operation) 0)) σ) result token.new }
+    ensures performs { (σ : State) → Stands σ token.old
+        → PerformsIn σ
+        (computed (room_in token.old) operation (value_at σ.world.rows (get_or values.now 0 0))
+        (value_at σ.world.rows (get_or values.now (second_of operation) 0)) σ)
+        result token.new }
     ensures same_tables { SameTables token.old token.new }
 {
     let second = second_operand(operation);
@@ -157,7 +165,9 @@ pub fn run_line(
     args: u64,
 ) -> Result<usize, Halt>
     requires { LineReady token.old outcomes.now commands.now steps.now head args }
-    ensures performs { (σ : State) (cs : List Command) (fs : List Finished) (l : Line) → LineGiven σ cs fs l token.old outcomes.now commands.now steps.now head args → PerformsIn σ (run_line (room_in token.old) cs fs l σ) result token.new }
+    ensures performs { (σ : State) (cs : List Command) (fs : List Finished) (l : Line)
+        → LineGiven σ cs fs l token.old outcomes.now commands.now steps.now head args
+        → PerformsIn σ (run_line (room_in token.old) cs fs l σ) result token.new }
     ensures same_tables { SameTables token.old token.new }
 {
     let head = head_of(head);

@@ -37,7 +37,8 @@ unfolding index_by
 some_map q f [] = refl
 some_map q f (x ∷ xs) = some_cons q (f x) (map f xs) ∙ rw (some_map q f xs) (sym (some_cons (λ a. q (f a)) x xs))
 
-pub some_agrees : {A : Type 0} (q r : A → Bool) (d : A) (xs : List A) → ((i : ℕ) → i < length xs → q (get_or xs i d) ≡ r (get_or xs i d)) → some q xs ≡ some r xs
+pub some_agrees : {A : Type 0} (q r : A → Bool) (d : A) (xs : List A) → ((i : ℕ) → i < length xs → q (get_or xs i d) ≡ r (get_or xs i d))
+    → some q xs ≡ some r xs
 unfolding index_by
 some_agrees q r d [] f = refl
 some_agrees q r d (x ∷ xs) f =
@@ -69,7 +70,8 @@ false_of true f = absurd (f tt)
 false_of false f = refl
 
 -- a new row's value is no finished line's
-new_value_unmet : (rows ws : List Value) → Rows (rows ++ ws) → (r : ℕ) → length rows ≤ r → r < length (rows ++ ws) → (o : Outcome) → HasPlace rows o
+new_value_unmet : (rows ws : List Value) → Rows (rows ++ ws) → (r : ℕ) → length rows ≤ r → r < length (rows ++ ws) → (o : Outcome)
+    → HasPlace rows o
     → T (is_value (value_at (rows ++ ws) r) o) → ⊥
 new_value_unmet rows ws R r old new (value v) h t =
     let e : value_at (rows ++ ws) r ≡ v = same_is_equal _ v (true_of (same (value_at (rows ++ ws) r) v) t) in
@@ -78,7 +80,8 @@ new_value_unmet rows ws R r old new (value v) h t =
 new_value_unmet rows ws R r old new none h t = t
 
 -- rows may grow
-pub hand_grown : (hand : List Bool) (rows ws : List Value) (os : List Outcome) → Hand hand rows os → Rows (rows ++ ws) → Hand hand (rows ++ ws) os
+pub hand_grown : (hand : List Bool) (rows ws : List Value) (os : List Outcome) → Hand hand rows os → Rows (rows ++ ws)
+    → Hand hand (rows ++ ws) os
 hand_grown hand rows ws os h R = record {
   long = h.long;
   marked = λ r l. go r l (dec_lt r (length rows));
@@ -106,12 +109,14 @@ module _ (hand : List Bool) (rows : List Value) (os : List Outcome) (v : Value) 
       → get_or (set hand row true) r false ≡ some (is_value (value_at rows r)) (os ++ value v ∷ [])
   marked_after r l (yes q) =
       let at : value_at rows r ≡ v = ap (value_at rows) q ∙ value_at_its_row v rows there in
-      rw (some_snoc (is_value (value_at rows r)) os (value v), at, q, get_or-set_same hand row true false (omega (arith, below, h.long)), same_itself v)
+      let marks = get_or-set_same hand row true false (omega (arith, below, h.long)) in
+      rw (some_snoc (is_value (value_at rows r)) os (value v), at, q, marks, same_itself v)
       (sym (or_comm (some (is_value v) os) true))
   marked_after r l (no q) =
       let differ : same (value_at rows r) v ≡ false = false_of (same (value_at rows r) v)
       (λ t. q (sym (row_at R r l) ∙ ap (λ x. row_of x rows) (same_is_equal (value_at rows r) v (true_of (same (value_at rows r) v) t)))) in
-      rw (some_snoc (is_value (value_at rows r)) os (value v), differ, get_or-set_other hand row r true false q, or-false (some (is_value (value_at rows r)) os))
+      let before = some (is_value (value_at rows r)) os in
+      rw (some_snoc (is_value (value_at rows r)) os (value v), differ, get_or-set_other hand row r true false q, or-false before)
       (h.marked r l)
 
   value_in_hand : Hand (set hand row true) rows (os ++ value v ∷ [])
@@ -123,7 +128,8 @@ module _ (hand : List Bool) (rows : List Value) (os : List Outcome) (v : Value) 
   }
 
 -- one more line
-pub hand_is_after : {hand : List Bool} {rows : List Value} {os : List Outcome} (o : Outcome) (row : Option ℕ) → Hand hand rows os → Rows rows
+pub hand_is_after : {hand : List Bool} {rows : List Value} {os : List Outcome} (o : Outcome) (row : Option ℕ) → Hand hand rows os
+    → Rows rows
     → length rows ≤ 4096 → RowIs rows o row → Hand (hand_after hand row) rows (os ++ o ∷ [])
 hand_is_after {hand} {rows} {os} (value v) row h R few e = rw e.1 (value_in_hand hand rows os v h R few e.0)
 hand_is_after {hand} {rows} {os} none row h R few e =

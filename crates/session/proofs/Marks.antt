@@ -34,7 +34,8 @@ module _ (vs : List Value) (hand : List Bool) (guards : List ℕ) (i : ℕ) (mor
       rw (drop-cons guards i 0 more, add-one i)
       (some_cons (λ g. get_or hand g false || is_const (value_at vs g)) (get_or guards i 0) (drop (suc i) guards))
 
-  pub guard_breaches : (get_or hand (get_or guards i 0) false || is_const (value_at vs (get_or guards i 0))) ≡ true → true ≡ breached_from vs hand guards i
+  pub guard_breaches : (get_or hand (get_or guards i 0) false || is_const (value_at vs (get_or guards i 0))) ≡ true
+      → true ≡ breached_from vs hand guards i
   guard_breaches e = sym (guard_first ∙ rw e)
 
   pub guard_passes : (get_or hand (get_or guards i 0) false || is_const (value_at vs (get_or guards i 0))) ≡ false

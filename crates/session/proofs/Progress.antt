@@ -17,12 +17,14 @@ use Rattle.model.specs.Basics.{index_by}
 use Rattle.model.specs.Step.{Command}
 use Rattle.model.specs.Value.{Value, fresh, row_of, present, value_at}
 use Rattle.model.specs.Token.{State, empty, Out, gave, ended, stopped, full}
-use Rattle.model.specs.Session.{Line, calls, Outcome, value, none, Finished, outcomes_of, Session, start, finished_as, finish, row_after, Run, after_line, run_line, run_from}
+use Rattle.model.specs.Session.{Line, calls, Outcome, value, none, Finished, outcomes_of, Session, start, finished_as, finish, row_after}
+use Rattle.model.specs.Session.{Run, after_line, run_line, run_from}
 use Rattle.model.specs.Frame.{File}
 use Rattle.model.specs.Report.{program_room, run_of, first_breach}
 use Rattle.model.specs.Numbers.{full_number}
 use Rattle.model.specs.Told.{ending_number, ending_place, breach_told}
-use Rattle.model.specs.Tables.{Tables, zeros, padded, Rows, row_codes, key_code, outcome_code, head_code, args_code, args_of_line, line_read, lines_read}
+use Rattle.model.specs.Tables.{Tables, zeros, padded, Rows, row_codes, key_code, outcome_code, head_code, args_code, args_of_line}
+use Rattle.model.specs.Tables.{line_read, lines_read}
 use Rattle.model.specs.declared.Ending.{Ending}
 use Rattle.model.specs.declared.Full.{Full}
 use Rattle.model.proofs.Tests.{and_left, and_right}
@@ -37,7 +39,9 @@ use Rattle.token.specs.declared.Token.{Token}
 use Rattle.line.specs.Lined.{Rowed, RowIs, finished_at, Finishing, LineGiven, LineReady}
 use Rattle.line.proofs.OneArgument.{entry_of, table_long}
 use Rattle.line.proofs.States.{ready_where_it_stands}
-use Rattle.session.specs.Sessioned.{SessionGiven, GuardsBelow, breached_by, outcome_number, RowBelow, earliest_of, SettledIs, FinishReady, FinishedIs, guards_in, RanIs}
+use Rattle.session.specs.Sessioned.{SessionGiven, GuardsBelow, breached_by, outcome_number, RowBelow, earliest_of, SettledIs, FinishReady}
+use Rattle.session.specs.Sessioned.{FinishedIs, guards_in, RanIs}
+use Rattle.session.specs.declared.Session.{Session as Ran}
 use Rattle.session.proofs.Hand.{Hand, hand_grown, hand_is_after, breach_is}
 
 -- ---- the first breached line, with one line more
@@ -71,18 +75,22 @@ first_marked_after fs f = go (dec_lt (index_by mark fs) (length fs))
 
     go : Dec (index_by mark fs < length fs) → first_marked (fs ++ f ∷ []) ≡ earliest_of (first_marked fs) (length fs) f.breach
     go (yes l) =
-        rw (index_kept_by_append mark fs (f ∷ []) l, more, lt-ltb (index_by mark fs) (length fs) l, lt-ltb (index_by mark fs) (suc (length fs)) (omega arith))
+        let at = index_by mark fs in
+        rw (index_kept_by_append mark fs (f ∷ []) l, more, lt-ltb at (length fs) l, lt-ltb at (suc (length fs)) (omega arith))
     go (no l) =
         let end : index_by mark fs ≡ length fs = omega (arith, index_at_most_length mark fs) in
-        rw (index_goes_on_after mark fs (f ∷ []) end, more, end, le-ltb (length fs) (length fs) (omega arith)) (last_line_decides (length fs) f.breach)
+        rw (index_goes_on_after mark fs (f ∷ []) end, more, end, le-ltb (length fs) (length fs) (omega arith))
+        (last_line_decides (length fs) f.breach)
 
 -- ---- what reading has seen to in each line
 
-line_read_at : (cs : List Command) (n : ℕ) (ls : List Line) (i : ℕ) (d : Line) → T (lines_read cs n ls) → i < length ls → T (line_read cs (n + i) (get_or ls i d))
+line_read_at : (cs : List Command) (n : ℕ) (ls : List Line) (i : ℕ) (d : Line) → T (lines_read cs n ls) → i < length ls
+    → T (line_read cs (n + i) (get_or ls i d))
 unfolding lines_read
 line_read_at cs n [] i d t h = absurd (omega arith)
 line_read_at cs n (l ∷ ls) zero d t h =
-    subst (λ (k : ℕ). T (line_read cs k l)) (let e : n ≡ n + 0 = omega arith in e) (and_left (line_read cs n l) (lines_read cs (suc n) ls) t)
+    let here : n ≡ n + 0 = omega arith in
+    subst (λ (k : ℕ). T (line_read cs k l)) here (and_left (line_read cs n l) (lines_read cs (suc n) ls) t)
 line_read_at cs n (l ∷ ls) (suc i) d t h =
     subst (λ (k : ℕ). T (line_read cs k (get_or ls i d))) (let e : suc n + i ≡ n + suc i = omega arith in e)
     (line_read_at cs (suc n) ls i d (and_right (line_read cs n l) (lines_read cs (suc n) ls) t) (omega arith))
@@ -178,13 +186,16 @@ module _ {φ : File} {before : Tables} {t : Token} {hand : List Bool} {outcomes 
   within : i < length φ.lines
   within = let e = g.lines_counted in omega arith
 
-  pub line_given : LineGiven s.state φ.commands s.finished l t outcomes before.commands before.steps (get_or before.heads i 0) (get_or before.arguments i 0)
+  pub line_given : LineGiven s.state φ.commands s.finished l t outcomes before.commands before.steps
+      (get_or before.heads i 0) (get_or before.arguments i 0)
   line_given = record {
     stands = at.stands;
     finishing = at.finishing;
     few_commands = g.well_read.few_commands;
     commands_read = g.well_read.commands_read;
-    line_is_read = subst (λ (k : ℕ). T (line_read φ.commands k l)) (let e = at.finished_count in let z : 0 + i ≡ length s.finished = omega arith in z)
+    line_is_read =
+        let lines : 0 + i ≡ length s.finished = omega (arith, at.finished_count) in
+        subst (λ (k : ℕ). T (line_read φ.commands k l)) lines
         (line_read_at φ.commands 0 φ.lines i no_line g.well_read.lines_well_read within);
     commands_are = g.held.commands_are;
     steps_are = g.held.steps_are;
@@ -256,9 +267,15 @@ module _ {s : Session} {t₀ : Token} (S : Stands s.state t₀) (i : ℕ) (o : R
         goes_on = λ rest. refl;
       }
   line_done (gave v σ) {row} p h =
-      line_stopped s i (gave v σ) row t' (record { carries = h.carries; few_atoms = S.few_atoms; counts_are = h.counts_are }) h.answer (λ rest. refl)
+      line_stopped s i (gave v σ) row t'
+      (record { carries = h.carries; few_atoms = S.few_atoms; counts_are = h.counts_are })
+      h.answer
+      (λ rest. refl)
   line_done (stopped σ) {row} p h =
-      line_stopped s i (stopped σ) row t' (record { carries = h.carries; few_atoms = S.few_atoms; counts_are = h.counts_are }) h.answer (λ rest. refl)
+      line_stopped s i (stopped σ) row t'
+      (record { carries = h.carries; few_atoms = S.few_atoms; counts_are = h.counts_are })
+      h.answer
+      (λ rest. refl)
   line_done (full n σ) {row} p h =
       let same : ◌≡◌ {A = Result (Option ℕ) ℕ} (Ok row) (Err n) = h.answer in
       absurd (let z : ◌≡◌ {A = ℕ} 0 1 = cc in omega arith)
@@ -298,7 +315,9 @@ row_fits rows (value v) row few (there, is) = omega (arith, present_means_below 
 row_fits rows none row few is = omega arith
 
 row_below : (rows : List Value) (o : Outcome) (row : Option ℕ) → length rows ≤ 4096 → RowIs rows o row → RowBelow 4096 row
-row_below rows (value v) row few (there, is) = rw is (let below : row_of v rows < 4096 = omega (arith, present_means_below v rows there) in below)
+row_below rows (value v) row few (there, is) =
+    let below : row_of v rows < 4096 = omega (arith, present_means_below v rows there) in
+    rw is below
 row_below rows none row few is = rw is tt
 
 -- the row that is recorded for a line
@@ -349,7 +368,8 @@ module _ {φ : File} {before : Tables} {t : Token} {hand : List Bool} {outcomes 
     below = λ j l.
         let near : j < t'.used.guards = omega (arith, guards_long) in
         let here : get_or (guards_in t') j 0 ≡ get_or t'.guards.now j 0 = get_or-take t'.used.guards t'.guards.now j 0 near in
-        let b : get_or (guards_in t') j 0 < length d.left.world.rows = rw here (d.stands.carries.guards_have_rows j (omega (arith, guards_counted))) in
+        let b : get_or (guards_in t') j 0 < length d.left.world.rows =
+        rw here (d.stands.carries.guards_have_rows j (omega (arith, guards_counted))) in
         (b, omega (arith, at.is_in_hand.long, few_rows));
   }
 
@@ -417,10 +437,13 @@ module _ {φ : File} {before : Tables} {t : Token} {hand : List Bool} {outcomes 
       };
       finished_count = one_more;
       is_in_hand = subst (Hand hand' d.left.world.rows) (sym (outcomes_snoc fs line)) hand_next;
-      first_is = rw (at.first_is, mark_right) (sym (first_marked_after fs line ∙ ap (λ k. earliest_of (first_marked fs) k line.breach) at.finished_count));
+      first_is =
+          let counted = ap (λ k. earliest_of (first_marked fs) k line.breach) at.finished_count in
+          rw (at.first_is, mark_right) (sym (first_marked_after fs line ∙ counted));
       rest =
           let step : i + 1 ≡ suc i = omega arith in
-          rw step (sym (d.goes_on (λ s'. run_from program_room φ.commands (drop (suc i) φ.lines) (suc i) s')) ∙ line_decides at g long more);
+          let rest : Session → Run = λ s'. run_from program_room φ.commands (drop (suc i) φ.lines) (suc i) s' in
+          rw step (sym (d.goes_on rest) ∙ line_decides at g long more);
     }
 
 -- ---- the end
@@ -437,6 +460,10 @@ line_fits at few j d l =
       omega (arith, at.finishing.keys_small j l),
     )
 
+-- what the code tells of a run
+abbrev pub told : Option Ending → Option ℕ → ℕ → Ran
+told ending first_breach finished = record { ran = record { ending = ending; first_breach = first_breach }; finished = finished }
+
 -- what the tables hold that a run leaves
 pub record Leaves (t : Token) (outcomes : List ℕ) (after : Tables) : Type 0 where
   pub rows : after.rows ≡ t.rows.now
@@ -451,7 +478,7 @@ module _ {φ : File} {t : Token} {hand : List Bool} {outcomes : List ℕ} {i : �
   run_so_far = record { session = at.session; ending = ending_number ended_by; place = ending_place ended_by }
 
   ran_so_far : run_so_far ≡ run_of φ → (lines : ℕ) → i ≡ lines
-      → RanIs (run_of φ) (record { ran = record { ending = ended_by; first_breach = first }; finished = lines }) after
+      → RanIs (run_of φ) (told ended_by first lines) after
   ran_so_far whole lines count =
       let σ = at.session.state in
       let few : length σ.world.rows ≤ 4096 = omega (arith, carried.rows_held.fit, long.rows) in
@@ -472,7 +499,7 @@ module _ {φ : File} {t : Token} {hand : List Bool} {outcomes : List ℕ} {i : �
 module _ {φ : File} {before after : Tables} {t : Token} {hand : List Bool} {outcomes : List ℕ} {i m : ℕ} {first : Option ℕ}
     (at : At φ t hand outcomes i first) (g : SessionGiven φ before m) where
   pub ran_through : Long t → Leaves t outcomes after → m ≤ i → i ≤ m
-      → RanIs (run_of φ) (record { ran = record { ending = None; first_breach = first }; finished = m }) after
+      → RanIs (run_of φ) (told None first m) after
   unfolding run_from
   ran_through long leaves over short =
       let past : length φ.lines ≤ i = let e = g.lines_counted in omega arith in
@@ -480,7 +507,7 @@ module _ {φ : File} {before after : Tables} {t : Token} {hand : List Bool} {out
 
   pub ran_over : (long : Long t) (more : i < m) {f : Full} {t' : Token} → LineOver at.session i (out at g long more) f t' → Long t'
       → Leaves t' outcomes after
-      → RanIs (run_of φ) (record { ran = record { ending = Some (record { full = f; line = i }); first_breach = first }; finished = i }) after
+      → RanIs (run_of φ) (told (Some (record { full = f; line = i })) first i) after
   ran_over long more {f} d long' leaves =
       let whole = sym (d.ends (λ s'. run_from program_room φ.commands (drop (suc i) φ.lines) (suc i) s')) ∙ line_decides at g long more in
       ran_so_far at d.carries long' leaves (Some (record { full = f; line = i })) whole i refl

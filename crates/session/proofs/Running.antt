@@ -24,7 +24,9 @@ use Rattle.line.specs.Lined.{LineGiven, LineReady}
 use Rattle.line.proofs.OneArgument.{table_long}
 use Rattle.line.proofs.States.{same_tables_refl, same_tables_trans, rows_length, keys_length}
 use Rattle.session.specs.Sessioned.{SessionGiven, SessionReady, SettleReady, SettledIs, FinishReady, FinishedIs, RanIs, earliest_of}
-use Rattle.session.proofs.Progress.{out, At, Long, Leaves, start_at, line_given, line_ready, LineDone, line_done, line_over, finish_ready, next_at, ran_through, ran_over}
+use Rattle.session.proofs.Progress.{told, out, At, Long, Leaves, start_at, line_given, line_ready, LineDone, line_done, line_over}
+use Rattle.session.proofs.Progress.{finish_ready}
+use Rattle.session.proofs.Progress.{next_at, ran_through, ran_over}
 
 -- how long the tables are that hold a file
 pub record Lengths (t : Tables) (m : ℕ) : Type 0 where
@@ -78,7 +80,7 @@ SettlePromise t earlier o r t' = (σ : State) (out : Out) → PerformsIn σ out 
 module _ {before : Tables} {m : ℕ} {t₀ t : Token} {outcomes : List ℕ} {hand : List Bool} {first : Option ℕ} {i : ℕ}
     (ready : SessionReady before m) (loop : Running before m t₀ t outcomes hand first i) where
   pub running_end : m ≤ i → i ≤ m → {after : Tables} → Leaves t outcomes after → (φ : File) → SessionGiven φ before m
-      → RanIs (run_of φ) (record { ran = record { ending = None; first_breach = first }; finished = m }) after
+      → RanIs (run_of φ) (told None first m) after
   running_end over short leaves φ g = ran_through (loop.at φ g) g loop.long leaves over short
 
   pub running_outcomes : length outcomes ≡ 1024
@@ -90,7 +92,8 @@ module _ {before : Tables} {m : ℕ} {t₀ t : Token} {outcomes : List ℕ} {han
 
     module _ {earlier : Counts} (noted : earlier ≡ t.used) (o : Result ℕ Halt) (t' : Token)
         (line : LinePromise t outcomes before.commands before.steps (get_or before.heads i 0) (get_or before.arguments i 0) o t') where
-      performed : (φ : File) (g : SessionGiven φ before m) → PerformsIn (loop.at φ g).session.state (out (loop.at φ g) g loop.long more) o t'
+      performed : (φ : File) (g : SessionGiven φ before m)
+          → PerformsIn (loop.at φ g).session.state (out (loop.at φ g) g loop.long more) o t'
       performed φ g = line _ _ _ _ (line_given (loop.at φ g) g loop.long more)
 
       counted : (φ : File) (g : SessionGiven φ before m) → earlier ≡ counts_of (loop.at φ g).session.state
@@ -116,7 +119,7 @@ module _ {before : Tables} {m : ℕ} {t₀ t : Token} {outcomes : List ℕ} {han
 
         pub running_over : {f : Full} → SettlePromise t' earlier o (Err f) t'' → {after : Tables} → Leaves t'' outcomes after
             → (φ : File) → SessionGiven φ before m
-            → RanIs (run_of φ) (record { ran = record { ending = Some (record { full = f; line = i }); first_breach = first }; finished = i }) after
+            → RanIs (run_of φ) (told (Some (record { full = f; line = i })) first i) after
         running_over {f} settled leaves φ g =
             let at = loop.at φ g in
             let out = out at g loop.long more in

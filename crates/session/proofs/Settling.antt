@@ -23,7 +23,8 @@ abbrev pub halt_of : Result ℕ Halt → Halt
 halt_of o = unwrap_or (result_err o) halt.Stopped
 
 -- what is left of it depends on that alone
-settled_by_halt : (o : Result ℕ Halt) (h : Halt) (c : Counts) → halt_of o ≡ h → settled_of (outcome_told (Err h) c) ≡ settled_of (outcome_told o c)
+settled_by_halt : (o : Result ℕ Halt) (h : Halt) (c : Counts) → halt_of o ≡ h
+    → settled_of (outcome_told (Err h) c) ≡ settled_of (outcome_told o c)
 settled_by_halt (Ok row) h c e = ap (λ k. settled_of (outcome_told (Err k) c)) (sym e)
 settled_by_halt (Err k) h c e = ap (λ k. settled_of (outcome_told (Err k) c)) (sym e)
 

@@ -1,5 +1,6 @@
 -- A session over the lent tables: what is given to the code that runs it, and what it answers and leaves.
-use Rattle.std.specs.Prelude.{ℕ, ◌+◌, ◌*◌, ◌≤◌, ◌<◌, ◌≡◌, Bool, true, false, cond, ◌||◌, List, Option, Some, None, Result, Ok, Err, map, length, get_or, take, set}
+use Rattle.std.specs.Prelude.{ℕ, ◌+◌, ◌*◌, ◌≤◌, ◌<◌, ◌≡◌, Bool, true, false, cond, ◌||◌, List, Option, Some, None, Result, Ok, Err, map}
+use Rattle.std.specs.Prelude.{length, get_or, take, set}
 use Rattle.std.specs.Option.{option_or}
 use Rattle.std.specs.Bool.{then_some}
 use Rattle.model.specs.Basics.{some}

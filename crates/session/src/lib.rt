@@ -10,7 +10,8 @@ ghost use Rattle.model.specs.Told.{lent, left};
 ghost use Rattle.values.specs.Holds.{Holds};
 ghost use Rattle.token.specs.Outcome.{SameTables};
 ghost use Rattle.token.specs.Carried.{counts_of, Tidy, PerformsIn};
-ghost use Rattle.session.specs.Sessioned.{SessionGiven, SessionReady, RanIs, FileKept, GuardsBelow, breached_by, RowBelow, outcome_number, SettleReady, SettledIs, FinishReady, FinishedIs};
+ghost use Rattle.session.specs.Sessioned.{SessionGiven, SessionReady, RanIs, FileKept, GuardsBelow, breached_by, RowBelow};
+ghost use Rattle.session.specs.Sessioned.{outcome_number, SettleReady, SettledIs, FinishReady, FinishedIs};
 
 use line::run_line;
 use model::{Ending, Full, Ran, Tables};
@@ -19,7 +20,8 @@ use token::{Counts, Halt, Token};
 // Whether some guarded value is a constant or in hand. The guards are rows.
 fn is_breached(rows: &[u64], guards: &[u64], hand: &[bool]) -> bool
     requires { GuardsBelow guards.now (length rows.now) (length hand.now) }
-    ensures { (vs : List Value) → Holds rows.now vs → GuardsBelow guards.now (length vs) (length hand.now) → result ≡ breached_by vs hand.now guards.now }
+    ensures { (vs : List Value) → Holds rows.now vs → GuardsBelow guards.now (length vs) (length hand.now)
+        → result ≡ breached_by vs hand.now guards.now }
 {
     for guard in guards {
         let row = *guard as usize;
@@ -48,7 +50,8 @@ fn settle(
     outcome: Result<usize, Halt>,
 ) -> Result<Option<usize>, Full>
     requires { SettleReady earlier outcome token.old }
-    ensures settled { (σ : State) (out : Out) → PerformsIn σ out outcome token.old → Tidy σ → earlier ≡ counts_of σ → SettledIs σ out result token.new }
+    ensures settled { (σ : State) (out : Out) → PerformsIn σ out outcome token.old → Tidy σ → earlier ≡ counts_of σ
+        → SettledIs σ out result token.new }
     ensures same_tables { SameTables token.old token.new }
 {
     // A call that comes to its end without a return has stopped.

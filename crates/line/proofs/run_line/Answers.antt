@@ -3,7 +3,8 @@
 use mathlib.Core.Path.{ap, sym, ◌∙◌}
 use Rattle.std.proofs.lemmas.Result.{err_from_is_err_and}
 use Rattle.line.specs.declared.Act.TheVariants.{Call}
-use Rattle.line.proofs.Whole.{arguments_are_ready, command_is_within, part_is_within, steps_are_ready, line_runs_steps, line_ends_with_arguments, operands_are_ready, line_computes_value}
+use Rattle.line.proofs.Whole.{arguments_are_ready, command_is_within, part_is_within, steps_are_ready, line_runs_steps}
+use Rattle.line.proofs.Whole.{line_ends_with_arguments, operands_are_ready, line_computes_value}
 use Rattle.line.proofs.run_line.Goals as goal
 
 pub take_arguments-requires : goal.take_arguments-requires

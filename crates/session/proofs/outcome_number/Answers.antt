@@ -23,4 +23,5 @@ in_parts None keys b false e = absurd (let z : ◌≡◌ {A = ℕ} 0 1 = cc in o
 
 pub returns : goal.returns
 returns c =
-    rw (c.unwrap_or-place.ensures, c.from-stopped.ensures, c.from-mark.ensures) (in_parts c.args.row c.args.keys c.args.breached _ c.is_none.ensures)
+    rw (c.unwrap_or-place.ensures, c.from-stopped.ensures, c.from-mark.ensures)
+    (in_parts c.args.row c.args.keys c.args.breached _ c.is_none.ensures)

@@ -4,7 +4,8 @@ use borrow.Author.Rules.{rules}
 use mathlib.Core.Path.{refl}
 use native.Mathlib.Omega.{arith}
 use Rattle.line.proofs.States.{same_tables_trans}
-use Rattle.session.proofs.Running.{running_start, lengths_of, running_end, running_line, running_settle, running_over, running_finish, running_next}
+use Rattle.session.proofs.Running.{running_start, lengths_of, running_end, running_line, running_settle, running_over, running_finish}
+use Rattle.session.proofs.Running.{running_next}
 use Rattle.session.proofs.run_session.Goals as goal
 
 pub loop-i-init : goal.loop-i-init

@@ -14,7 +14,9 @@ pub returns-in-Stopped-clause-settled : goal.returns-in-Stopped-clause-settled
 returns-in-Stopped-clause-settled c = λ σ out P tidy counts.
     let undone = c.undo_line in
     let before = c.args.token.now in
-    undone_settled σ out c.args.outcome before undone.new.self P halt.Stopped (rw (← c.err.ensures.value) (sym c.in-Stopped.ensures)) (λ k. tt)
+    undone_settled σ out c.args.outcome before undone.new.self P halt.Stopped
+    (rw (← c.err.ensures.value) (sym c.in-Stopped.ensures))
+    (λ k. tt)
     (undone.ensures.counted ∙ counts)
     (undone.ensures.undone σ (state_of out) tidy P.carries P.extends counts (later_counts out c.args.outcome before P))
     _ refl
@@ -23,7 +25,9 @@ pub returns-in-Full-clause-settled : goal.returns-in-Full-clause-settled
 returns-in-Full-clause-settled c = λ σ out P tidy counts.
     let undone = c.undo_line-in-Full in
     let before = c.args.token.now in
-    undone_settled σ out c.args.outcome before undone.new.self P (halt.Full c.in-Full.full) (rw (← c.err.ensures.value) (sym c.in-Full.ensures)) (λ k. tt)
+    undone_settled σ out c.args.outcome before undone.new.self P (halt.Full c.in-Full.full)
+    (rw (← c.err.ensures.value) (sym c.in-Full.ensures))
+    (λ k. tt)
     (undone.ensures.counted ∙ counts)
     (undone.ensures.undone σ (state_of out) tidy P.carries P.extends counts (later_counts out c.args.outcome before P))
     _ refl
