@@ -29,67 +29,37 @@ use Rattle.model.specs.declared.Refusal.{Refusal}
 use Rattle.model.specs.Numbers.{fault_number}
 use Rattle.model.specs.Told.{read_told}
 use Rattle.frames.specs.declared.Turn.{Turn as TakenTurn}
-use Rattle.frames.specs.Turn.{Turn, turn_told, place_number, turn_of, filed, Counted, HeldIn, TurnIn, SameLengths, SameReferences}
+use Rattle.frames.specs.Turn.{Turn, turn_told, place_number, turn_of, filed, Counted, HeldIn, TurnIn}
 use Rattle.frames.specs.Turn as turn
 use Rattle.frames.specs.declared.Counts.{Counts}
-use Rattle.frames.specs.declared.FileTables.{FileTables}
+use Rattle.frames.specs.declared.file_tables.FileTables.{FileTables}
 use Rattle.frames.specs.declared.Place.TheVariants.{Start, Commands, Lines}
 use Rattle.frames.proofs.Cut.{cut_means_same, taken_is_short}
 use Rattle.frames.proofs.Reading.{nothing_counted, nothing_held, after_policy, after_command, read_after_line}
-use Rattle.file.specs.Framed.{located, contents_of, LengthsIn, ClearedIn, FramedIs}
+use Rattle.file.specs.Framed.{located, contents_of, ZerosIn, FramedIs}
 
 -- after the lines before `at`, of which there are `frame`: what was counted, what the tables hold, and the policy, where one was read
 pub record Progress (input : List ℕ) (t : FileTables) (at frame : ℕ) (counts : Counts) (policy : Option Policy) : Type 0 where
   pub reading : Reading
   pub counted : Counted reading (place_number counts.place) counts.commands counts.lines
   pub held : HeldIn reading.file t
-  pub lengths : LengthsIn t
   pub policy_is : policy ≡ cond (eqb reading.place 0) None (Some reading.file.policy)
   pub few_frames : frame ≤ at
   pub few_commands : counts.commands ≤ 32
   pub few_lines : counts.lines ≤ 1024
   pub rest : parse_from (lines_of (drop at input)) frame reading ≡ parse_from (lines_of input) 0 nothing_read
 
-pub start : (input : List ℕ) (t : FileTables) → ClearedIn t
+pub start : (input : List ℕ) (t : FileTables) → ZerosIn t
     → Progress input t 0 0 (record { place = Start; commands = 0; lines = 0 }) None
 start input t h = record {
   reading = nothing_read;
   counted = nothing_counted;
-  held = rw (h.all_zero.heads_zero, h.all_zero.arguments_zero, h.all_zero.commands_zero, h.all_zero.steps_zero) nothing_held;
-  lengths = h.lengths;
+  held = rw (h.heads_zero, h.arguments_zero, h.commands_zero, h.steps_zero) nothing_held;
   policy_is = refl;
   few_frames = omega arith;
   few_commands = omega arith;
   few_lines = omega arith;
   rest = refl;
-}
-
--- ---- the references stay those that were lent
-
-pub same_start : (t : FileTables) → SameReferences t t
-same_start t =
-    (refl, refl, refl, refl, record { heads_length = refl; arguments_length = refl; commands_length = refl; steps_length = refl })
-
-pub same_further : (t t' t'' : FileTables) → SameReferences t t' → SameReferences t' t'' → SameReferences t t''
-same_further t t' t'' a b = (
-  b.0 ∙ a.0,
-  b.1 ∙ a.1,
-  b.2 ∙ a.2,
-  b.3 ∙ a.3,
-  record {
-    heads_length = b.4.heads_length ∙ a.4.heads_length;
-    arguments_length = b.4.arguments_length ∙ a.4.arguments_length;
-    commands_length = b.4.commands_length ∙ a.4.commands_length;
-    steps_length = b.4.steps_length ∙ a.4.steps_length;
-  },
-)
-
-pub same_lengths : {t t' : FileTables} → LengthsIn t → SameLengths t t' → LengthsIn t'
-same_lengths long same = record {
-  heads_length = same.heads_length ∙ long.heads_length;
-  arguments_length = same.arguments_length ∙ long.arguments_length;
-  commands_length = same.commands_length ∙ long.commands_length;
-  steps_length = same.steps_length ∙ long.steps_length;
 }
 
 short_parse : (input : List ℕ) → length input ≤ 32768 → parse input ≡ parse_from (lines_of input) 0 nothing_read
@@ -243,7 +213,7 @@ module _ {input : List ℕ} {t : FileTables} {at frame : ℕ} {counts : Counts} 
     (p : Progress input t at frame counts policy)
     (more : at < length input) {before buffer f : List ℕ} {w : Scanned} {r : Option Scanned} {a : Turn}
     (sized : length before ≡ 68) (scans : Scans input at r before buffer) (well : r ≡ Some w) (part : f ≡ take w.len buffer)
-    {t' : FileTables} (takes : Takes f a counts t t') (same : SameReferences t t') where
+    (t' : FileTables) (takes : Takes f a counts t t') where
   abbrev len : ℕ
   len = w.len
 
@@ -317,7 +287,6 @@ module _ {input : List ℕ} {t : FileTables} {at frame : ℕ} {counts : Counts} 
         reading = after_frame p.reading f;
         counted = after_policy p.counted f none told_policy.1;
         held = held_after none;
-        lengths = same_lengths p.lengths same.4;
         policy_is = rw (told_policy.1, told_policy.2);
         few_frames = omega (arith, p.few_frames);
         few_commands = p.few_commands;
@@ -340,7 +309,6 @@ module _ {input : List ℕ} {t : FileTables} {at frame : ℕ} {counts : Counts} 
         reading = after_frame p.reading f;
         counted = subst (λ (k : ℕ). Counted (after_frame p.reading f) k (counts.commands + 1) counts.lines) (sym one) counted_after.0;
         held = held_after none;
-        lengths = same_lengths p.lengths same.4;
         policy_is = p.policy_is ∙ rw (told_command.1, at_commands);
         few_frames = omega (arith, p.few_frames);
         few_commands = omega (arith, counted_after.1);
@@ -361,7 +329,6 @@ module _ {input : List ℕ} {t : FileTables} {at frame : ℕ} {counts : Counts} 
         reading = after_frame p.reading f;
         counted = counted_after.0;
         held = held_after none;
-        lengths = same_lengths p.lengths same.4;
         policy_is = p.policy_is ∙ rw (told_line.1, ne_eqb p.reading.place 0 (λ z. omega arith));
         few_frames = omega (arith, p.few_frames);
         few_commands = p.few_commands;

@@ -18,8 +18,8 @@ use Rattle.model.specs.Tables.{Tables, zeros, cleared, right_lengths, read_into,
 use Rattle.model.specs.Tables.{ReadAnswer}
 use Rattle.model.specs.Tables as read
 use Rattle.model.proofs.Tests.{and_left, and_right}
-use Rattle.frames.specs.declared.FileTables.{FileTables}
-use Rattle.file.specs.Framed.{LengthsIn, Zeros, ZerosFor, Cleared, Left, FramedIs, LeftIs}
+use Rattle.frames.specs.declared.file_tables.FileTables.{FileTables}
+use Rattle.file.specs.Framed.{Zeros, ZerosIn, Cleared, Left, FramedIs, LeftIs}
 
 pub too_long : (input heads arguments commands steps : List ℕ) → Cleared heads arguments commands steps → 32768 < length input
     → LeftIs (parse input) (read.Refused 1 0) heads arguments commands steps
@@ -38,21 +38,21 @@ pub record AreIn (t : FileTables) (heads arguments commands steps : List ℕ) : 
 -- a refusal leaves what was cleared once more, and a file what was held
 pub refusal_left : (p : Parsed) (r : Result Contents Refusal) (t t' : FileTables) {heads arguments commands steps : List ℕ}
     → FramedIs p (read_told r) t
-    → is_err r ≡ true → LengthsIn t → ZerosFor t t' → AreIn t' heads arguments commands steps
+    → is_err r ≡ true → ZerosIn t' → AreIn t' heads arguments commands steps
     → LeftIs p (read_told r) heads arguments commands steps
 unfolding read_answer
-refusal_left (refused n k) r t t' f e long zero are =
+refusal_left (refused n k) r t t' f e zero are =
     record {
       answer = f.answer;
       left = record {
-        heads_zero = are.heads_are ∙ rw long.heads_length at zero.heads_zero;
-        arguments_zero = are.arguments_are ∙ rw long.arguments_length at zero.arguments_zero;
-        commands_zero = are.commands_are ∙ rw long.commands_length at zero.commands_zero;
-        steps_zero = are.steps_are ∙ rw long.steps_length at zero.steps_zero;
+        heads_zero = are.heads_are ∙ zero.heads_zero;
+        arguments_zero = are.arguments_are ∙ zero.arguments_zero;
+        commands_zero = are.commands_are ∙ zero.commands_zero;
+        steps_zero = are.steps_are ∙ zero.steps_zero;
       };
     }
-refusal_left (file φ) (Ok c) t t' f e long zero are = absurd (false≢true e)
-refusal_left (file φ) (Err d) t t' f e long zero are = let told = f.answer in absurd (let z : ◌≡◌ {A = ℕ} 0 1 = cc in omega arith)
+refusal_left (file φ) (Ok c) t t' f e zero are = absurd (false≢true e)
+refusal_left (file φ) (Err d) t t' f e zero are = let told = f.answer in absurd (let z : ◌≡◌ {A = ℕ} 0 1 = cc in omega arith)
 
 pub file_left : (p : Parsed) (r : Result Contents Refusal) (t : FileTables) {heads arguments commands steps : List ℕ}
     → FramedIs p (read_told r) t

@@ -9,7 +9,7 @@ use Rattle.model.specs.declared.Fault.TheVariants.{Misplaced}
 use Rattle.model.specs.declared.Refusal.{Refusal}
 use Rattle.frames.specs.Turn.{HeldIn}
 use Rattle.frames.specs.declared.Counts.{Counts}
-use Rattle.frames.specs.declared.FileTables.{FileTables}
+use Rattle.frames.specs.declared.file_tables.FileTables.{FileTables}
 use Rattle.frames.specs.declared.Turn.{Turn}
 
 -- a frame's fault, as the refusal of the whole input
@@ -51,16 +51,9 @@ pub record LeftIs (p : Parsed) (r : ReadAnswer) (heads arguments commands steps 
 
 -- ---- the same of the lent tables
 
-abbrev pub LengthsIn : FileTables → Type 0
-LengthsIn t = Lengths t.heads.now t.arguments.now t.commands.now t.steps.now
-
-abbrev pub ClearedIn : FileTables → Type 0
-ClearedIn t = Cleared t.heads.now t.arguments.now t.commands.now t.steps.now
-
-abbrev pub ZerosFor : FileTables → FileTables → Type 0
-ZerosFor t t' =
-    Zeros t'.heads.now t'.arguments.now t'.commands.now t'.steps.now
-    (length t.heads.now) (length t.arguments.now) (length t.commands.now) (length t.steps.now)
+-- all zero, of the lengths that their type says
+abbrev pub ZerosIn : FileTables → Type 0
+ZerosIn t = Zeros t.heads.now t.arguments.now t.commands.now t.steps.now 1024 1024 32 512
 
 abbrev pub HeldIf : Parsed → FileTables → Type 0
 HeldIf (refused n k) t = Unit {0}

@@ -6,7 +6,7 @@ ghost use Rattle.model.specs.File.{parse};
 ghost use Rattle.model.specs.Tables.{right_lengths, ReadIs};
 ghost use Rattle.model.specs.Told.{read_told, lent, left};
 ghost use Rattle.frames.specs.Turn.{SameReferences};
-ghost use Rattle.file.specs.Framed.{located, contents_of, Cleared, ClearedIn, ZerosFor, FramedIs, LeftIs};
+ghost use Rattle.file.specs.Framed.{located, contents_of, Cleared, ZerosIn, FramedIs, LeftIs};
 
 use frames::{Counts, FileTables, Place, Turn};
 use model::{Contents, Fault, Policy, Refusal, Tables};
@@ -38,7 +38,7 @@ fn contents(policy: Option<Policy>, counts: Counts) -> Result<Contents, Refusal>
 
 // The frames of an input, into tables that are all zero.
 fn read_frames(input: &[u8], tables: &mut FileTables<'_>) -> Result<Contents, Refusal>
-    requires { ClearedIn tables.old × (length input.now ≤ 32768) }
+    requires { ZerosIn tables.old × (length input.now ≤ 32768) }
     ensures framed { FramedIs (parse input.now) (read_told result) tables.new }
     ensures same_references { SameReferences tables.old tables.new }
 {
@@ -78,7 +78,7 @@ fn read_frames(input: &[u8], tables: &mut FileTables<'_>) -> Result<Contents, Re
 }
 
 fn clear_read(tables: &mut FileTables<'_>)
-    ensures zeros { ZerosFor tables.old tables.new }
+    ensures zeros { ZerosIn tables.new }
     ensures same_references { SameReferences tables.old tables.new }
 {
     tables.heads.fill(0);

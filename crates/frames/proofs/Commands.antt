@@ -13,7 +13,7 @@ use Rattle.model.specs.Frame.{File, byte_at, steps_of, command_of, step_formed, 
 use Rattle.model.specs.Tables.{padded, step_code, command_code}
 use Rattle.frames.specs.Turn.{turn_of}
 use Rattle.frames.specs.Parts.{no_step, filled, head_formed, DecodedAs, CommandStored, Takes, TakesIn}
-use Rattle.frames.specs.declared.FileTables.{FileTables}
+use Rattle.frames.specs.declared.file_tables.FileTables.{FileTables}
 use Rattle.frames.specs.declared.command.Command.{Command}
 use Rattle.frames.specs.Turn as turn
 use Rattle.frames.proofs.Lists.{both, whole_rest, filled_first, filled_map}

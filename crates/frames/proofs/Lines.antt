@@ -18,7 +18,7 @@ use Rattle.model.specs.Frame.{body_refusal}
 use Rattle.model.specs.Tables.{padded, command_code, head_code, args_code, args_of_line}
 use Rattle.frames.specs.Turn.{turn_of, Counted}
 use Rattle.frames.specs.Parts.{line_named, LineStored, Takes}
-use Rattle.frames.specs.declared.FileTables.{FileTables}
+use Rattle.frames.specs.declared.file_tables.FileTables.{FileTables}
 use Rattle.frames.specs.Turn as turn
 use Rattle.frames.proofs.Lists.{both}
 use Rattle.frames.proofs.Turns.{refused, room_left, is_line, taken, is_in_place}

@@ -7,7 +7,7 @@ use Rattle.model.specs.Frame.{Reading, byte_at, steps_of, args_of, arg_names}
 use Rattle.model.specs.Tables.{Held, step_code, args_code}
 use Rattle.model.specs.declared.Step.{Step}
 use Rattle.frames.specs.Turn.{Turn, Counted, TurnIs}
-use Rattle.frames.specs.declared.FileTables.{FileTables}
+use Rattle.frames.specs.declared.file_tables.FileTables.{FileTables}
 use Rattle.frames.specs.declared.command.Command.{Command}
 
 abbrev pub step_at : List ℕ → ℕ → Step

@@ -12,7 +12,7 @@ use Rattle.frames.specs.declared.Turn.TheVariants as taken
 use Rattle.frames.specs.declared.Place.{Place}
 use Rattle.frames.specs.declared.Place.TheVariants.{Start, Commands, Lines}
 use Rattle.frames.specs.declared.Counts.{Counts}
-use Rattle.frames.specs.declared.FileTables.{FileTables}
+use Rattle.frames.specs.declared.file_tables.FileTables.{FileTables}
 
 -- what a frame comes to: its refusal's number; the policy; a command or a session line, which stands in the tables now
 pub data Turn : Type 0 where
@@ -71,27 +71,16 @@ HeldIn φ t = Held φ t.heads.now t.arguments.now t.commands.now t.steps.now
 abbrev pub TurnIn : Reading → List ℕ → Turn → FileTables → Type 0
 TurnIn c f r t = TurnIs c f r t.heads.now t.arguments.now t.commands.now t.steps.now
 
-pub record SameLengths (t t' : FileTables) : Type 0 where
-  pub heads_length : length t'.heads.now ≡ length t.heads.now
-  pub arguments_length : length t'.arguments.now ≡ length t.arguments.now
-  pub commands_length : length t'.commands.now ≡ length t.commands.now
-  pub steps_length : length t'.steps.now ≡ length t.steps.now
-
--- the references are those that were lent, and each table keeps its length
+-- the references are those that were lent; that each table keeps its length their type says
 abbrev pub SameReferences : FileTables → FileTables → Type 0
 SameReferences t t' =
     (t'.heads.ghost_name ≡ t.heads.ghost_name)
     × (t'.arguments.ghost_name ≡ t.arguments.ghost_name)
     × (t'.commands.ghost_name ≡ t.commands.ghost_name)
     × (t'.steps.ghost_name ≡ t.steps.ghost_name)
-    × SameLengths t t'
 
--- what the caller sees to: a frame has a first byte, the tables have their lengths, and there is no more than they hold
-pub record Ready (f : List ℕ) (c : Counts) (t : FileTables) : Type 0 where
+-- what the caller sees to: a frame has a first byte, and there is no more than the tables hold
+pub record Ready (f : List ℕ) (c : Counts) : Type 0 where
   pub some_byte : 0 < length f
   pub few_commands : c.commands ≤ 32
   pub few_lines : c.lines ≤ 1024
-  pub heads_length : length t.heads.now ≡ 1024
-  pub arguments_length : length t.arguments.now ≡ 1024
-  pub commands_length : length t.commands.now ≡ 32
-  pub steps_length : length t.steps.now ≡ 512

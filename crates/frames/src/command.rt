@@ -108,7 +108,7 @@ fn store_steps(steps: &[Step; 16], part: &mut [u64])
 
 // Command n, in its entry and its sixteen places.
 fn store_command(c: Command, n: usize, tables: &mut FileTables<'_>)
-    requires { (n < 32) × (length tables.old.commands.now ≡ 32) × (length tables.old.steps.now ≡ 512) }
+    requires { n < 32 }
     ensures stored { CommandStored c n tables.old tables.new }
     ensures same_references { SameReferences tables.old tables.new }
 {
@@ -118,7 +118,7 @@ fn store_command(c: Command, n: usize, tables: &mut FileTables<'_>)
 
 #[tactic(auto, using(crate::proofs::Commands::head_whole, crate::proofs::Commands::head_some, crate::proofs::Commands::head_few))]
 pub fn command_turn(f: &[u8], n: usize, tables: &mut FileTables<'_>) -> Result<Turn, Fault>
-    requires { (byte_at f.now 0 ≡ 2) × (length tables.old.commands.now ≡ 32) × (length tables.old.steps.now ≡ 512) }
+    requires { byte_at f.now 0 ≡ 2 }
     ensures answer { (m : ℕ) → TakesIn 1 n m f.now (turn_told result) tables.old tables.new }
     ensures same_references { SameReferences tables.old tables.new }
 {

@@ -2,6 +2,7 @@
 #![tactic(auto)]
 
 mod command;
+mod file_tables;
 mod line;
 mod policy;
 mod step;
@@ -12,6 +13,7 @@ ghost use Rattle.model.specs.Frame.{Reading, kind_of, in_place};
 ghost use Rattle.frames.specs.Turn.{place_number, turn_told, refusal_told, Counted, Ready, HeldIn, SameReferences, TurnIn};
 
 use crate::command::command_turn;
+pub use crate::file_tables::FileTables;
 use crate::line::line_turn;
 use crate::policy::policy_turn;
 use model::{Fault, Policy};
@@ -54,15 +56,6 @@ pub struct Counts {
     pub lines: usize,
 }
 
-// The lent tables that hold a file.
-#[derive(Drop)]
-pub struct FileTables<'a> {
-    pub heads: &'a mut [u64],
-    pub arguments: &'a mut [u64],
-    pub commands: &'a mut [u64],
-    pub steps: &'a mut [u64],
-}
-
 // The refusal of a command or a session line, the one with the lowest number that it earns.
 fn lowest(formed: bool, room: bool, named: bool) -> Result<(), Fault>
     ensures { refusal_told result ≡ (formed else 4 then room else 5 then named else 6 then 0) }
@@ -81,7 +74,7 @@ fn lowest(formed: bool, room: bool, named: bool) -> Result<(), Fault>
 
 // Any frame, after what was read before it.
 pub fn take_frame(f: &[u8], counts: Counts, tables: &mut FileTables<'_>) -> Result<Turn, Fault>
-    requires { Ready f.now counts tables.old }
+    requires { Ready f.now counts }
     ensures answer { (c : Reading) → Counted c (place_number counts.place) counts.commands counts.lines → HeldIn c.file tables.old
         → TurnIn c f.now (turn_told result) tables.new }
     ensures same_references { SameReferences tables.old tables.new }

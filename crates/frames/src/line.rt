@@ -59,7 +59,7 @@ fn every_argument_names(f: &[u8], m: usize) -> bool
 
 // Whether there is a command of this number among the n, with so many parameters.
 fn has_command(number: u8, params: u8, n: usize, tables: &FileTables<'_>) -> bool
-    requires { n ≤ length tables.now.commands.now }
+    requires { n ≤ 32 }
     ensures { result ≡ (ltb number n && eqb params (get_or tables.now.commands.now number 0 % 256)) }
 {
     let at = usize::from(number);
@@ -69,7 +69,7 @@ fn has_command(number: u8, params: u8, n: usize, tables: &FileTables<'_>) -> boo
 // Whether a session line names what is there: a command, if it calls one, and earlier lines.
 #[tactic(auto, unfolding(crate::specs::Parts::line_named))]
 fn line_names(f: &[u8], n: usize, m: usize, tables: &FileTables<'_>) -> bool
-    requires { (length f.now ≡ 4 + 2 * byte_at f.now 3) × (n ≤ length tables.now.commands.now) }
+    requires { (length f.now ≡ 4 + 2 * byte_at f.now 3) × (n ≤ 32) }
     ensures { result ≡ line_named f.now n m tables.now.commands.now }
 {
     (f[1] != 0 || has_command(f[2], f[3], n, tables)) && every_argument_names(f, m)
@@ -90,8 +90,7 @@ fn arguments_code(f: &[u8]) -> u64
 
 // Session line m, its head and its arguments.
 fn store_line(f: &[u8], m: usize, tables: &mut FileTables<'_>)
-    requires { (length f.now ≡ 4 + 2 * byte_at f.now 3) × (byte_at f.now 3 ≤ 4) × (m < 1024)
-        × (length tables.old.heads.now ≡ 1024) × (length tables.old.arguments.now ≡ 1024) }
+    requires { (length f.now ≡ 4 + 2 * byte_at f.now 3) × (byte_at f.now 3 ≤ 4) × (m < 1024) }
     ensures stored { LineStored f.now m tables.old tables.new }
     ensures same_references { SameReferences tables.old tables.new }
 {
@@ -100,8 +99,7 @@ fn store_line(f: &[u8], m: usize, tables: &mut FileTables<'_>)
 }
 
 pub fn line_turn(f: &[u8], n: usize, m: usize, tables: &mut FileTables<'_>) -> Result<Turn, Fault>
-    requires { (byte_at f.now 0 ≡ 3) × (n ≤ length tables.old.commands.now)
-        × (length tables.old.heads.now ≡ 1024) × (length tables.old.arguments.now ≡ 1024) }
+    requires { (byte_at f.now 0 ≡ 3) × (n ≤ 32) }
     ensures answer { (place : ℕ) → 1 ≤ place → TakesIn place n m f.now (turn_told result) tables.old tables.new }
     ensures same_references { SameReferences tables.old tables.new }
 {

@@ -2,7 +2,6 @@
 -- Assumes nothing.
 use mathlib.Core.Path.{sym, ◌∙◌}
 use native.Mathlib.Omega.{arith}
-use Rattle.file.proofs.Progress.{same_lengths}
 use Rattle.file.proofs.Whole.{too_long, refusal_left, file_left}
 use Rattle.file.proofs.read_cleared.Goals as goal
 
@@ -12,9 +11,8 @@ returns-then-input-gt-LONGEST_INPUT c = too_long _ _ _ _ _ c.requires c.if-input
 pub returns-then-is_err : goal.returns-then-is_err
 returns-then-is_err c =
     let told = c.read_frames-answer.ensures in
-    let long = same_lengths c.requires.lengths told.same_references.4 in
     let again = c.clear_read.ensures.same_references in
-    refusal_left _ _ _ c.clear_read.new.tables told.framed (sym c.is_err.ensures.value ∙ c.if-is_err.true) long c.clear_read.ensures.zeros
+    refusal_left _ _ _ c.clear_read.new.tables told.framed (sym c.is_err.ensures.value ∙ c.if-is_err.true) c.clear_read.ensures.zeros
     (record { heads_are = grind arith; arguments_are = grind arith; commands_are = grind arith; steps_are = grind arith })
 
 pub returns-else-is_err : goal.returns-else-is_err

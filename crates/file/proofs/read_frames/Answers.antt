@@ -5,14 +5,14 @@ use lib.Seq.{length-take-le}
 use native.Mathlib.Omega.{arith}
 use Rattle.std.proofs.lemmas.Result.{err_from_is_err_and}
 use Rattle.frames.specs.Turn.{turn_told}
-use Rattle.file.proofs.Progress.{start, same_start, same_further, front_some, scan_well, scan_broken, turn_refused, policy_taken}
+use Rattle.file.proofs.Progress.{start, front_some, scan_well, scan_broken, turn_refused, policy_taken}
 use Rattle.file.proofs.Progress.{command_taken, line_taken}
 use Rattle.file.proofs.Progress.{refusal_framed, all_framed, none_told, some_told, fault_told, turn_kept}
 use Rattle.file.proofs.read_frames.Goals as goal
 use Rattle.file.proofs.read_frames.Goals.{in-Policy, in-Command, in-Line}
 
 pub loop-at-init : goal.loop-at-init
-loop-at-init c = record { progress = start _ _ c.requires.0; sized = refl; same = same_start _ }
+loop-at-init c = record { progress = start _ c.args.tables.now c.requires.0; sized = refl; same = (refl, refl, refl, refl) }
 
 pub returns-in_err-line-clause-framed : goal.returns-in_err-line-clause-framed
 returns-in_err-line-clause-framed c =
@@ -36,15 +36,10 @@ take_frame-turn-requires c =
     let v = c.loop-at.invariant in
     let some = some_told c.scan_line.result _ (c.in_ok-line.ensures).value in
     let well = scan_well _ _ c.loop-at-test.true v.sized c.scan_line.ensures some in
-    let long = v.progress.lengths in
     record {
       some_byte = front_some _ _ well.some_byte well.fits;
       few_commands = v.progress.few_commands;
       few_lines = v.progress.few_lines;
-      heads_length = long.heads_length;
-      arguments_length = long.arguments_length;
-      commands_length = long.commands_length;
-      steps_length = long.steps_length;
     }
 
 pub returns-in_err-turn-clause-framed : goal.returns-in_err-turn-clause-framed
@@ -55,8 +50,8 @@ returns-in_err-turn-clause-framed c =
     let fault = fault_told c.take_frame-turn.result _ (c.in_err-turn.ensures) in
     rw (p.1, p.2, fault.1)
     (refusal_framed _ _ _ _ c.requires.1
-    (turn_refused v.progress c.loop-at-test.true v.sized c.scan_line.ensures some refl c.take_frame-turn.ensures.answer
-    c.take_frame-turn.ensures.same_references _ fault.0))
+    (turn_refused v.progress c.loop-at-test.true v.sized c.scan_line.ensures some refl
+    c.take_frame-turn.new.tables c.take_frame-turn.ensures.answer _ fault.0))
 
 pub loop-at-smaller : goal.loop-at-smaller
 loop-at-smaller c =
@@ -69,6 +64,7 @@ loop-at-preserved c =
     let v = c.loop-at.invariant in
     let some = some_told c.scan_line.result _ (c.in_ok-line.ensures).value in
     let turn = ap turn_told (turn_kept c.take_frame-turn.result _ (c.in_ok-turn.ensures)) in
+    let after = c.take_frame-turn.new.tables in
     let answer = c.take_frame-turn.ensures.answer in
     let same = c.take_frame-turn.ensures.same_references in
     record {
@@ -76,16 +72,16 @@ loop-at-preserved c =
           elim c.match-turn.branch [
             | in-Policy w ↦
                 rw (w.policy-is, w.counts-is)
-                (policy_taken v.progress c.loop-at-test.true v.sized c.scan_line.ensures some refl answer same (turn ∙ rw w.in-Policy.is))
+                (policy_taken v.progress c.loop-at-test.true v.sized c.scan_line.ensures some refl after answer (turn ∙ rw w.in-Policy.is))
             | in-Command w ↦
                 rw (w.policy-is, w.counts-is)
-                (command_taken v.progress c.loop-at-test.true v.sized c.scan_line.ensures some refl answer same (turn ∙ rw w.in-Command.is))
+                (command_taken v.progress c.loop-at-test.true v.sized c.scan_line.ensures some refl after answer (turn ∙ rw w.in-Command.is))
             | in-Line w ↦
                 rw (w.policy-is, w.counts-is)
-                (line_taken v.progress c.loop-at-test.true v.sized c.scan_line.ensures some refl answer same (turn ∙ rw w.in-Line.is))
+                (line_taken v.progress c.loop-at-test.true v.sized c.scan_line.ensures some refl after answer (turn ∙ rw w.in-Line.is))
           ];
       sized = omega arith;
-      same = same_further _ _ _ v.same same;
+      same = (same.0 ∙ v.same.0, same.1 ∙ v.same.1, same.2 ∙ v.same.2, same.3 ∙ v.same.3);
     }
 
 pub returns-clause-framed : goal.returns-clause-framed
