@@ -89,6 +89,11 @@ module _ (f : Finished) (rows : List Value) (small : length rows ≤ 65536) (few
       let halted : stopped_byte f.outcome ≡ 1 = ap stopped_byte e in
       rw (eq-eqb (outcome_code f / 4294967296 % 2) 1 (stop_told (omega arith) (omega arith) ∙ halted))
 
+-- a value keeps its row where others come after
+pub rowed_kept : (rows new : List Value) (o : Outcome) (row : ℕ) → Rowed rows o row → Rowed (rows ++ new) o row
+rowed_kept rows new (value v) row r = (present_kept v rows new r.0, r.1 ∙ sym (row_kept v rows new r.0))
+rowed_kept rows new none row r = r
+
 module _ {fs : List Finished} {rows : List Value} {outcomes : List ℕ} (F : Finishing fs rows outcomes) where
   pub table_long : length outcomes ≡ 1024
   table_long =
@@ -112,13 +117,9 @@ module _ {fs : List Finished} {rows : List Value} {outcomes : List ℕ} (F : Fin
       (record {
         codes_are = F.codes_are;
         few = F.few;
-        rowed = λ i h. rowed_kept (finished_at fs i).outcome (finished_at fs i).row (F.rowed i h);
+        rowed = λ i h. rowed_kept rows new (finished_at fs i).outcome (finished_at fs i).row (F.rowed i h);
         keys_small = F.keys_small;
       })
-    where
-      rowed_kept : (o : Outcome) (row : ℕ) → Rowed rows o row → Rowed (rows ++ new) o row
-      rowed_kept (value v) row r = (present_kept v rows new r.0, r.1 ∙ sym (row_kept v rows new r.0))
-      rowed_kept none row r = r
 
 -- ---- what the number of an argument tells the code
 

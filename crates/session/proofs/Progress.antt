@@ -32,12 +32,12 @@ use Rattle.model.proofs.TypedValues.{outcomes_snoc}
 use Rattle.values.proofs.Index.{index_at_most_length, index_kept_by_append, index_goes_on_after}
 use Rattle.values.proofs.Held.{zeros_hold_nothing}
 use Rattle.values.proofs.Padded.{set_next}
-use Rattle.values.proofs.Present.{present_means_below, row_kept, present_kept}
+use Rattle.values.proofs.Present.{present_means_below}
 use Rattle.token.specs.Carried.{room_in, counts_of, CarriedIn, PerformsIn, Stands}
 use Rattle.token.specs.declared.Halt.{Halt}
 use Rattle.token.specs.declared.Token.{Token}
 use Rattle.line.specs.Lined.{Rowed, RowIs, finished_at, Finishing, LineGiven, LineReady}
-use Rattle.line.proofs.OneArgument.{entry_of, table_long}
+use Rattle.line.proofs.OneArgument.{entry_of, rowed_kept, table_long}
 use Rattle.line.proofs.States.{ready_where_it_stands}
 use Rattle.session.specs.Sessioned.{SessionGiven, GuardsBelow, breached_by, outcome_number, RowBelow, earliest_of, SettledIs, FinishReady}
 use Rattle.session.specs.Sessioned.{FinishedIs, guards_in, RanIs}
@@ -324,10 +324,6 @@ row_below rows none row few is = rw is tt
 row_recorded : (o : Outcome) (σ : State) (row : Option ℕ) → RowIs σ.world.rows o row → Rowed σ.world.rows o (row_after o σ)
 row_recorded (value v) σ row (there, is) = (there, refl)
 row_recorded none σ row is = refl
-
-rowed_kept : (rows ws : List Value) (o : Outcome) (row : ℕ) → Rowed rows o row → Rowed (rows ++ ws) o row
-rowed_kept rows ws (value v) row (there, at) = (present_kept v rows ws there, at ∙ sym (row_kept v rows ws there))
-rowed_kept rows ws none row at = at
 
 -- what holds at each place of a list, and of one more element, holds of the longer list
 at_each : (P : Finished → Type 0) (fs : List Finished) (f : Finished) → ((j : ℕ) → j < length fs → P (finished_at fs j)) → P f

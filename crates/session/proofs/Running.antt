@@ -21,7 +21,6 @@ use Rattle.token.specs.declared.Counts.{Counts}
 use Rattle.token.specs.declared.Halt.{Halt}
 use Rattle.token.specs.declared.Token.{Token}
 use Rattle.line.specs.Lined.{LineGiven, LineReady}
-use Rattle.line.proofs.OneArgument.{table_long}
 use Rattle.line.proofs.States.{same_tables_refl, same_tables_trans, rows_length, keys_length}
 use Rattle.session.specs.Sessioned.{SessionGiven, SessionReady, SettleReady, SettledIs, FinishReady, FinishedIs, RanIs, earliest_of}
 use Rattle.session.proofs.Progress.{told, out, At, Long, Leaves, start_at, line_given, line_ready, LineDone, line_done, line_over}
@@ -82,9 +81,6 @@ module _ {before : Tables} {m : ℕ} {t₀ t : Token} {outcomes : List ℕ} {han
   pub running_end : m ≤ i → i ≤ m → {after : Tables} → Leaves t outcomes after → (φ : File) → SessionGiven φ before m
       → RanIs (run_of φ) (told None first m) after
   running_end over short leaves φ g = ran_through (loop.at φ g) g loop.long leaves over short
-
-  pub running_outcomes : length outcomes ≡ 1024
-  running_outcomes = table_long (loop.at ready.φ ready.given).finishing
 
   module _ (more : i < m) where
     pub running_line : LineReady t outcomes before.commands before.steps (get_or before.heads i 0) (get_or before.arguments i 0)

@@ -42,9 +42,13 @@ pub record SessionReady (t : Tables) (m : ℕ) : Type 0 where
 pub record GuardsBelow (guards : List ℕ) (a b : ℕ) : Type 0 where
   pub below : (i : ℕ) → i < length guards → (get_or guards i 0 < a) × (get_or guards i 0 < b)
 
--- some guarded row is a constant or marked as in hand
+-- the row is that of a constant, or marked as in hand
+abbrev pub known : List Value → List Bool → ℕ → Bool
+known vs hand row = get_or hand row false || is_const (value_at vs row)
+
+-- some guarded row is
 unfoldable pub breached_by : List Value → List Bool → List ℕ → Bool
-breached_by vs hand guards = some (λ g. get_or hand g false || is_const (value_at vs g)) guards
+breached_by vs hand guards = some (known vs hand) guards
 
 -- the row of a finished line in its number, and the bit that says that the line stopped
 abbrev pub row_number : Option ℕ → ℕ

@@ -10,26 +10,30 @@ ghost use Rattle.model.specs.Told.{lent, left};
 ghost use Rattle.values.specs.Holds.{Holds};
 ghost use Rattle.token.specs.Outcome.{SameTables};
 ghost use Rattle.token.specs.Carried.{counts_of, Tidy, PerformsIn};
-ghost use Rattle.session.specs.Sessioned.{SessionGiven, SessionReady, RanIs, FileKept, GuardsBelow, breached_by, RowBelow};
+ghost use Rattle.session.specs.Sessioned.{SessionGiven, SessionReady, RanIs, FileKept, GuardsBelow, known, breached_by, RowBelow};
 ghost use Rattle.session.specs.Sessioned.{outcome_number, SettleReady, SettledIs, FinishReady, FinishedIs};
 
 use line::run_line;
 use model::{Ending, Full, Ran, Tables};
 use token::{Counts, Halt, Token};
 
-// Whether some guarded value is a constant or in hand. The guards are rows.
+// Whether the value in a row is a constant or in hand.
+fn is_known(rows: &[u64], hand: &[bool], row: usize) -> bool
+    requires { (row < length rows.now) × (row < length hand.now) }
+    ensures { (vs : List Value) → Holds rows.now vs → row < length vs → result ≡ known vs hand.now row }
+{
+    hand[row] || values::is_constant(rows, row)
+}
+
+// Whether some guarded value is. The guards are rows.
 fn is_breached(rows: &[u64], guards: &[u64], hand: &[bool]) -> bool
     requires { GuardsBelow guards.now (length rows.now) (length hand.now) }
     ensures { (vs : List Value) → Holds rows.now vs → GuardsBelow guards.now (length vs) (length hand.now)
         → result ≡ breached_by vs hand.now guards.now }
 {
-    for guard in guards {
-        let row = *guard as usize;
-        if hand[row] || values::is_constant(rows, row) {
-            return true;
-        }
-    }
-    false
+    guards
+        .iter()
+        .any(|guard| is_known(rows, hand, *guard as usize))
 }
 
 // A finished line as one number: its value's row, or 65535 where it stopped.
