@@ -3,12 +3,12 @@
 -- Assumes nothing.
 use Prim.Native.Nat.{ℕ, zero, suc, ◌+◌, ◌-◌, ◌*◌, ◌/◌, ◌%◌, ◌≤◌, ◌<◌, min}
 use mathlib.Core.Path.{◌≡◌, refl, sym, ap, ap₂, ◌∙◌}
-use mathlib.Core.Bool.{Bool, ◌&&◌}
 use mathlib.Core.List.{List, [], ◌∷◌, ◌++◌, map, append_assoc}
 use native.Mathlib.Omega.{arith}
 use lib.Dec.{T, ltb, leb, ltb→lt, leb→le, eqb→eq}
 use lib.ListN.{get_or, length, take, drop, length-append, length-replicate, length-map, get_or-append, get_or-map}
 use lib.Seq.{take-append_seam, take_at, drop_at, drop-drop, get_or-take, get_or-drop}
+use Rattle.std.proofs.lemmas.List.{map-append}
 use Rattle.model.specs.Basics.{every, up_from}
 use Rattle.model.specs.Step.{fields_of, ops, op_of, Command}
 use Rattle.model.specs.declared.Operation.TheVariants.{Encrypt, Decrypt, Derive}
@@ -17,7 +17,7 @@ use Rattle.model.specs.declared.Op.TheVariants.{Return, Get, Generate, Store, Co
 use Rattle.model.specs.declared.Use.{Use}
 use Rattle.model.specs.declared.Use.TheVariants.{Nothing, Operand, Attributes, Label}
 use Rattle.model.specs.Token.{command_at}
-use Rattle.model.specs.Frame.{field_formed, step_formed, returns_last, field_names, step_names, names_made}
+use Rattle.model.specs.Frame.{field_formed, step_formed, field_names, step_names, names_made}
 use Rattle.model.specs.Tables.{zeros, padded, step_code, command_code, step_codes, command_read}
 use Rattle.model.specs.declared.Step.{Step}
 use Rattle.model.proofs.Tests.{and_left, and_right}
@@ -52,7 +52,8 @@ module _ (s : Step) (small : Small s) where
   unfolding step_from
   step_back = rw (op_back, a_back, b_back, t_back)
 
--- The steps that reading takes are small: a field is 0 where its op does not use it, names one of at most twenty values, or is a set of attributes or a label.
+-- The steps that reading takes are small: a field is 0 where its op does not use it, names one of at most twenty values,
+-- or is a set of attributes or a label.
 
 used_small : (u : Use) (n x : ℕ) → n ≤ 20 → T (field_formed u x) → T (field_names n u x) → x < 64
 used_small Nothing n x few formed named = let none = eqb→eq x 0 formed in omega arith
@@ -74,20 +75,12 @@ last_small Unknown x formed = let none = eqb→eq x 0 formed in omega arith
 pub step_small : (n : ℕ) (s : Step) → n ≤ 20 → T (step_formed s) → T (step_names n s) → Small s
 step_small n s few formed named =
     let uses = fields_of (op_of s) in
-    let many = length (ops s.t) in
-    let known : Bool = ltb s.op many in
-    let a_formed = field_formed uses.a s.a in
-    let b_formed = field_formed uses.b s.b in
-    let t_formed = field_formed uses.t s.t in
-    let a_named = field_names n uses.a s.a in
-    let b_named = field_names n uses.b s.b in
-    let without_t = and_left (known && a_formed && b_formed) t_formed formed in
-    let without_b = and_left (known && a_formed) b_formed without_t in
+    let known : T (ltb s.op (length (ops s.t))) = search (and_left, and_right) in
     record {
-      op_small = omega (arith, ltb→lt s.op many (and_left known a_formed without_b));
-      a_small = used_small uses.a n s.a few (and_right known a_formed without_b) (and_left a_named b_named named);
-      b_small = used_small uses.b n s.b few (and_right (known && a_formed) b_formed without_t) (and_right a_named b_named named);
-      t_small = last_small (op_of s) s.t (and_right (known && a_formed && b_formed) t_formed formed);
+      op_small = omega (arith, ltb→lt s.op (length (ops s.t)) known);
+      a_small = used_small uses.a n s.a few (search (and_left, and_right)) (search and_left);
+      b_small = used_small uses.b n s.b few (search (and_left, and_right)) (search (and_left, and_right));
+      t_small = last_small (op_of s) s.t (search (and_left, and_right));
     }
 
 steps_back : (n : ℕ) (ss : List Step) → n + length ss ≤ 20 → T (every step_formed ss) → T (names_made n ss)
@@ -95,11 +88,9 @@ steps_back : (n : ℕ) (ss : List Step) → n + length ss ≤ 20 → T (every st
 unfolding names_made
 steps_back n [] few formed named = refl
 steps_back n (s ∷ ss) few formed named =
-    let first = and_left (step_formed s) (every step_formed ss) formed in
-    let rest = and_right (step_formed s) (every step_formed ss) formed in
     ap₂ (λ x xs. x ∷ xs)
-    (step_back s (step_small n s (omega arith) first (and_left (step_names n s) (names_made (suc n) ss) named)))
-    (steps_back (suc n) ss (omega arith) rest (and_right (step_names n s) (names_made (suc n) ss) named))
+    (step_back s (step_small n s (omega arith) (search and_left) (search and_left)))
+    (steps_back (suc n) ss (omega arith) (search and_right) (search and_right))
 
 -- ---- a command
 
@@ -112,24 +103,14 @@ pub record Read (c : Command) : Type 0 where
 
 pub read_in_parts : (c : Command) → T (command_read c) → Read c
 read_in_parts c read =
-    let params : Bool = leb c.params 4 in
-    let count : Bool = leb (length c.steps) 16 in
-    let formed = every step_formed c.steps in
-    let last = returns_last c.steps in
-    let named = names_made c.params c.steps in
-    let without_named = and_left (params && count && formed && last) named read in
-    let without_last = and_left (params && count && formed) last without_named in
-    let counts = and_left (params && count) formed without_last in
+    let params : T (leb c.params 4) = search (and_left, and_right) in
+    let count : T (leb (length c.steps) 16) = search (and_left, and_right) in
     record {
-      few_params = leb→le c.params 4 (and_left params count counts);
-      few_steps = leb→le (length c.steps) 16 (and_right params count counts);
-      steps_formed = and_right (params && count) formed without_last;
-      made_names = and_right (params && count && formed && last) named read;
+      few_params = leb→le c.params 4 params;
+      few_steps = leb→le (length c.steps) 16 count;
+      steps_formed = search (and_left, and_right);
+      made_names = search (and_left, and_right);
     }
-
-map_append : {A B : Type 0} (f : A → B) (xs ys : List A) → map f (xs ++ ys) ≡ map f xs ++ map f ys
-map_append f [] ys = refl
-map_append f (x ∷ xs) ys = ap (λ l. f x ∷ l) (map_append f xs ys)
 
 -- the places of a command in the steps' table
 abbrev pub places_of : Command → List ℕ
@@ -157,7 +138,7 @@ module _ (c : Command) (read : Read c) where
       let count : min (command_code c / 256) 16 ≡ length c.steps = omega (arith, count_back, read.few_steps) in
       let few : c.params + length c.steps ≤ 20 = omega (arith, read.few_params, read.few_steps) in
       ap₂ (λ k ss. record { params = k; steps = ss }) params
-      (ap₂ take count (map_append step_from codes (zeros (16 - length codes))
+      (ap₂ take count (map-append step_from codes (zeros (16 - length codes))
       ∙ ap (λ l. l ++ unused) (steps_back c.params c.steps few read.steps_formed read.made_names))
       ∙ take-append_seam c.steps unused)
 
@@ -170,7 +151,8 @@ padded_entry : (n : ℕ) (xs : List ℕ) (i : ℕ) → i < length xs → get_or 
 unfolding padded
 padded_entry n xs i within = get_or-append xs (zeros (n - length xs)) 0 i within
 
-pub command_entry : (cs : List Command) (c : ℕ) → c < length cs → get_or (padded 32 (map command_code cs)) c 0 ≡ command_code (command_at cs c)
+pub command_entry : (cs : List Command) (c : ℕ) → c < length cs
+    → get_or (padded 32 (map command_code cs)) c 0 ≡ command_code (command_at cs c)
 unfolding command_code
 command_entry cs c there =
     padded_entry 32 (map command_code cs) c (omega (arith, length-map cs command_code))
@@ -178,8 +160,8 @@ command_entry cs c there =
 
 pub read_at : (cs : List Command) (c : ℕ) → T (every command_read cs) → c < length cs → Read (command_at cs c)
 read_at [] c read there = absurd (omega arith)
-read_at (x ∷ xs) zero read there = read_in_parts x (and_left (command_read x) (every command_read xs) read)
-read_at (x ∷ xs) (suc c) read there = read_at xs c (and_right (command_read x) (every command_read xs) read) (omega arith)
+read_at (x ∷ xs) zero read there = read_in_parts x (search and_left)
+read_at (x ∷ xs) (suc c) read there = read_at xs c (search and_right) (omega arith)
 
 -- the sixteen places of command c, whatever follows the last command
 places_before : (cs : List Command) (later : List ℕ) (c : ℕ) → T (every command_read cs) → c < length cs
@@ -192,7 +174,7 @@ places_before (x ∷ xs) later (suc c) read there =
     let next : 16 * suc c ≡ 16 + 16 * c = omega arith in
     let size = sixteen_places x (read_at (x ∷ xs) 0 read (omega arith)) in
     rw (append_assoc, next, ← drop-drop, drop_at (places_of x) (step_codes xs ++ later) 16 size)
-    (places_before xs later c (and_right (command_read x) (every command_read xs) read) (omega arith))
+    (places_before xs later c (search and_right) (omega arith))
 
 -- command c of two tables, and k commands from c on
 unfoldable pub command_in : List ℕ → List ℕ → ℕ → Command
@@ -207,7 +189,8 @@ module _ (cs : List Command) (read : T (every command_read cs)) (c : ℕ) (there
   steps_part = places_before cs (zeros (512 - length (step_codes cs))) c read there
 
   pub step_entry : (i : ℕ) → i < length (command_at cs c).steps
-      → get_or (padded 512 (step_codes cs)) (16 * c + i) 0 ≡ step_code (get_or (command_at cs c).steps i (record { op = 0; a = 0; b = 0; t = 0 }))
+      → get_or (padded 512 (step_codes cs)) (16 * c + i) 0
+      ≡ step_code (get_or (command_at cs c).steps i (record { op = 0; a = 0; b = 0; t = 0 }))
   unfolding step_code
   step_entry i within =
       let steps = (command_at cs c).steps in

@@ -8,21 +8,17 @@ ghost use Rattle.decoding.specs.Decoded.{step_from};
 use model::Step;
 
 // The step that a number of the table stands for.
+#[tactic(auto, unfolding(crate::specs::Decoded::step_from))]
 pub fn step_of(code: u64) -> Step
     ensures { result ≡ step_from code }
 {
-    Step {
-        op: (code % 256) as u8,
-        a: (code / 256 % 256) as u8,
-        b: (code / 65536 % 256) as u8,
-        t: (code / 16777216 % 256) as u8,
-    }
+    let [op, a, b, t, ..] = code.to_le_bytes();
+    Step { op, a, b, t }
 }
 
 // A count from a command's number. Reading lets no command have more than the most, and the walk over its steps relies on that.
 pub fn at_most(n: u64, most: usize) -> usize
     ensures { result ≡ min n most }
 {
-    let n = n as usize;
-    if n < most { n } else { most }
+    (n as usize).min(most)
 }

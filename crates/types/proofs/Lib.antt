@@ -1,5 +1,4 @@
 -- The laws that the functions' proofs cite.
 pub mod Table
-pub mod Codes
 pub mod Mask
 pub mod Walk

@@ -1,56 +1,64 @@
 -- The walk over the templates: what a get may find from one template on, in terms of what it may find from the next one on.
 -- Assumes nothing.
 use mathlib.Core.Path.{◌≡◌, refl}
-use mathlib.Core.Bool.{Bool, true, false, cond, ◌&&◌}
-use mathlib.Core.List.{List, [], ◌∷◌}
-use Prim.Native.Nat.{ℕ, suc, ◌-◌, ◌≤◌}
+use mathlib.Core.Bool.{Bool, true, false, cond, ◌&&◌, ◌||◌}
+use mathlib.Core.List.{◌∷◌}
+use Prim.Native.Nat.{ℕ, zero, suc, ◌-◌, ◌≤◌}
 use native.Mathlib.Omega.{arith}
 use lib.Dec.{ltb}
 use lib.ListN.{length}
 use borrow.Author.Tests.{lt-ltb}
+use Rattle.std.proofs.Common.{add-one}
+use Rattle.std.specs.List.{list_any, range_with_len}
 use Rattle.model.specs.Basics.{those, up_from}
-use Rattle.model.specs.Types.{code_of, type_of, type_of_code, join}
-use Rattle.model.specs.Policy.{allows, meets, offered, join_of}
+use Rattle.model.specs.Types.{type_of, join}
+use Rattle.model.specs.Policy.{allows, meets, offered, get_type, join_of}
 use Rattle.model.specs.declared.Step.{Step}
-use Rattle.model.proofs.TypeOrder.{code_back}
+use Rattle.model.specs.declared.Ty.{Ty}
+use Rattle.model.specs.declared.Ty.TheVariants.{None}
 
 module _ (set : ℕ) (s : Step) where
-  -- the templates from m on that the get may find
-  unfoldable pub offered_from : ℕ → List ℕ
-  offered_from m = those (λ n. allows set n && meets s n) (up_from m (64 - m))
+  -- the get may find a key that is kept under template m
+  abbrev pub offers : ℕ → Bool
+  offers m = allows set m && meets s m
 
-  pub all_from_first : offered set s ≡ offered_from 0
-  unfolding offered_from
-  all_from_first = refl
+  -- of the k templates from n on
+  any_of : (n k : ℕ) → list_any offers (range_with_len n k) ≡ ltb 0 (length (those offers (up_from n k)))
+  unfolding those up_from
+  any_of n zero = refl
+  any_of n (suc k) = simp add-one (go (offers n) (any_of (suc n) k))
+    where
+      go : (b : Bool) → list_any offers (range_with_len (suc n) k) ≡ ltb 0 (length (those offers (up_from (suc n) k)))
+          → (b || list_any offers (range_with_len (suc n) k))
+          ≡ ltb 0 (length (cond b (n ∷ those offers (up_from (suc n) k)) (those offers (up_from (suc n) k))))
+      go true later = rw (lt-ltb 0 (suc (length (those offers (up_from (suc n) k)))) (omega arith))
+      go false later = later
 
-  pub none_past_last : offered_from 64 ≡ []
-  unfolding offered_from those up_from
-  none_past_last = refl
+  pub any_offered : list_any offers (range_with_len 0 64) ≡ ltb 0 (length (offered set s))
+  any_offered = any_of 0 64
 
-  pub join_past_last : 6 ≡ code_of (join_of (offered_from 64))
-  unfolding join_of
-  join_past_last = rw none_past_last
+  -- the join over the templates from m on that the get may find
+  unfoldable pub joined_from : ℕ → Ty
+  joined_from m = join_of (those offers (up_from m (64 - m)))
 
-  -- m is the template after n, or the end; on says whether n is offered
-  module _ (n m : ℕ) (on : Bool) (next : m ≡ suc n) (within : m ≤ 64) (tested : on ≡ (allows set n && meets s n)) where
-    one_more : offered_from n ≡ cond on (n ∷ offered_from m) (offered_from m)
-    unfolding offered_from those up_from
-    one_more = let left : 64 - n ≡ suc (64 - m) = omega arith in rw (left, tested, next)
+  pub joined_past_last : joined_from 64 ≡ None
+  unfolding joined_from those up_from join_of
+  joined_past_last = refl
 
-    found : on ≡ true → offered_from n ≡ n ∷ offered_from m
-    found e = rw e at one_more
+  pub joined_from_first : joined_from 0 ≡ get_type set s
+  unfolding joined_from
+  joined_from_first = refl
 
-    pub passed : on ≡ false → offered_from n ≡ offered_from m
-    passed e = rw e at one_more
+  -- m is the template after n, or the end
+  module _ (n m : ℕ) (next : m ≡ suc n) (within : m ≤ 64) where
+    from_next : up_from n (64 - n) ≡ n ∷ up_from m (64 - m)
+    unfolding up_from
+    from_next = let left : 64 - n ≡ suc (64 - m) = omega arith in rw (left, next)
 
-    pub some_found : on ≡ true → offered set s ≡ offered_from n → true ≡ ltb 0 (length (offered set s))
-    some_found e all = rw (all, found e, lt-ltb 0 (suc (length (offered_from m))) (omega arith))
+    pub joined_with : offers n ≡ true → joined_from n ≡ join (type_of n) (joined_from m)
+    unfolding joined_from those join_of
+    joined_with on = rw (from_next, on)
 
-    -- acc and acc' are the codes of the joins from m on and from n on, t of the type of n
-    pub join_kept : (acc : ℕ) → on ≡ false → acc ≡ code_of (join_of (offered_from m)) → acc ≡ code_of (join_of (offered_from n))
-    join_kept acc e so_far = rw (passed e) so_far
-
-    pub join_grown : (acc t acc' : ℕ) → on ≡ true → acc ≡ code_of (join_of (offered_from m))
-        → t ≡ code_of (type_of n) → acc' ≡ code_of (join (type_of_code t) (type_of_code acc)) → acc' ≡ code_of (join_of (offered_from n))
-    unfolding join_of
-    join_grown acc t acc' e so_far type joined = rw (found e, joined, type, so_far) (simp code_back)
+    pub joined_without : offers n ≡ false → joined_from n ≡ joined_from m
+    unfolding joined_from those
+    joined_without off = rw (from_next, off)

@@ -1,66 +1,59 @@
-// Types as the code has them, by their codes: 0 Un, 1 TData, 2 Data, 3 Wrap, 4 Seed, 5 Any. Any number above 5 is no type.
-// What each function answers is defined in the crate model, over the types themselves.
+// The types of templates, their order and their join, and what a get may find under a policy.
+// What each function answers is defined in the crate model.
 #![tactic(auto)]
 
 ghost use Rattle.std.specs.Prelude.{◌≡◌, ◌&&◌, ◌<◌, ltb, length};
-ghost use Rattle.model.specs.Types.{code_of, type_of, type_of_code, below, join};
+ghost use Rattle.model.specs.Types.{type_of, below, join};
 ghost use Rattle.model.specs.Policy.{allows, meets, offered, get_type};
 
-use model::Step;
-
-// The codes that order and join speak of.
-const DATA: u8 = 2;
-
-const ANY: u8 = 5;
-
-const NONE: u8 = 6;
+use model::Ty::{Any, Data, None as NoType, Seed, TData, Un, Wrap};
+use model::{Step, Ty};
 
 // The type of each template, with the template's number at every eighth.
-const TYPES: [u8; 64] = [
-    0, // 0
-    5, 6, 4, 0, 2, 6, 1, 0, // 8
-    2, 6, 1, 0, 2, 6, 1, 0, // 16
-    5, 6, 3, 0, 5, 6, 4, 0, // 24
-    5, 6, 4, 0, 5, 6, 4, 0, // 32
-    5, 6, 3, 0, 5, 6, 4, 0, // 40
-    5, 6, 4, 0, 5, 6, 4, 0, // 48
-    5, 6, 3, 0, 5, 6, 4, 0, // 56
-    5, 6, 4, 0, 5, 6, 4,
+const TYPES: [Ty; 64] = [
+    Un, // 0
+    Any, NoType, Seed, Un, Data, NoType, TData, Un, // 8
+    Data, NoType, TData, Un, Data, NoType, TData, Un, // 16
+    Any, NoType, Wrap, Un, Any, NoType, Seed, Un, // 24
+    Any, NoType, Seed, Un, Any, NoType, Seed, Un, // 32
+    Any, NoType, Wrap, Un, Any, NoType, Seed, Un, // 40
+    Any, NoType, Seed, Un, Any, NoType, Seed, Un, // 48
+    Any, NoType, Wrap, Un, Any, NoType, Seed, Un, // 56
+    Any, NoType, Seed, Un, Any, NoType, Seed,
 ];
 
-pub fn type_of(t: u8) -> u8
+pub fn type_of(t: u8) -> Ty
     requires { t < 64 }
-    ensures { result ≡ code_of (type_of t) }
+    ensures { result ≡ type_of t }
 {
-    TYPES[t as usize]
+    TYPES[usize::from(t)]
 }
 
-// The codes are chosen so that the types below Data, and those below Any, are the ones with smaller codes.
-// No other type has a type below it but itself.
-pub fn is_below(a: u8, b: u8) -> bool
-    ensures { result ≡ below (type_of_code a) (type_of_code b) }
+// What has no type is below nothing. Beside each type and itself only what is below Data and what is below Any is ordered.
+pub fn is_below(a: Ty, b: Ty) -> bool
+    ensures { result ≡ below a b }
 {
-    (a == b) & (a < NONE) | (b == DATA) & (a < DATA) | (b == ANY) & (a < ANY)
+    match (a, b) {
+        (NoType, _) => false,
+        (Un | TData, Data) | (_, Any) => true,
+        _ => a == b,
+    }
 }
 
-// Two different types that are below Data meet there, and any other two only at Any.
-pub fn join_of(a: u8, b: u8) -> u8
-    ensures { result ≡ code_of (join (type_of_code a) (type_of_code b)) }
+// Two different types that are below Data meet there, and any other two only at Any. What has no type adds nothing.
+pub fn join_of(a: Ty, b: Ty) -> Ty
+    ensures { result ≡ join a b }
 {
-    if NONE <= a {
-        if b < NONE { b } else { NONE }
-    } else if NONE <= b {
-        a
-    } else if a == b {
-        a
-    } else if is_below(a, DATA) & is_below(b, DATA) {
-        DATA
-    } else {
-        ANY
+    match (a, b) {
+        (NoType, other) | (other, NoType) => other,
+        _ if a == b => a,
+        _ if is_below(a, Data) && is_below(b, Data) => Data,
+        _ => Any,
     }
 }
 
 // The field of a step may hold more than the six attributes; what stands above them asks for nothing.
+#[tactic(auto, using(crate::proofs::Mask::contains_by_mask))]
 pub fn meets_template(s: Step, m: u8) -> bool
     requires { m < 64 }
     ensures { result ≡ meets s m }
@@ -78,30 +71,21 @@ fn is_offered(set: u64, s: Step, m: u8) -> bool
 }
 
 // The walk goes from the last template to the first, since the join of a list is defined from its end.
-pub fn get_type(set: u64, s: Step) -> u8
-    ensures { result ≡ code_of (get_type set s) }
+pub fn get_type(set: u64, s: Step) -> Ty
+    ensures { result ≡ get_type set s }
 {
-    let mut acc = NONE;
-    let mut m = 64;
-    while 0 < m {
-        m -= 1;
+    let mut joined = NoType;
+    for m in (0..64).rev() {
         if is_offered(set, s, m) {
-            acc = join_of(type_of(m), acc);
+            joined = join_of(type_of(m), joined);
         }
     }
-    acc
+    joined
 }
 
 // A template without a type counts too, so the type of the get would not tell.
 pub fn offers_some(set: u64, s: Step) -> bool
     ensures { result ≡ ltb 0 (length (offered set s)) }
 {
-    let mut m = 0;
-    while m < 64 {
-        if is_offered(set, s, m) {
-            return true;
-        }
-        m += 1;
-    }
-    false
+    (0..64).any(|m| is_offered(set, s, m))
 }

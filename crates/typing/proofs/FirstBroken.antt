@@ -6,8 +6,7 @@ use mathlib.Core.List.{List, [], ◌∷◌, ◌++◌, append_assoc}
 use Rattle.model.specs.Basics.{All}
 use Rattle.model.specs.Step.{Command}
 use Rattle.model.specs.declared.Policy.{Policy}
-use Rattle.model.specs.Typing.{findings, or_later, first_refusal, verdict}
-use Rattle.model.specs.Typing.{Verdict}
+use Rattle.model.specs.Typing.{Verdict, findings, or_later, first_refusal, verdict}
 use Rattle.model.proofs.Acceptance.{Met, no_refusal}
 
 -- v is one of the findings, and all before it are met

@@ -1,3 +1,3 @@
 -- What the contracts cite.
 pub mod Given
-pub mod Lent
+pub mod Judged

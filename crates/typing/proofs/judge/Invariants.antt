@@ -2,14 +2,8 @@
 -- What the tables hold comes in only at the end, where the caller's `Given` makes their commands those of the file.
 -- Assumes nothing.
 use mathlib.Core.Path.{◌≡◌}
-use Prim.Native.Nat.{◌-◌}
-use Rattle.typing.specs.Lent.{policy_from}
 use Rattle.typing.proofs.Judging.{judged_from}
 use Rattle.typing.proofs.judge.Given as goal
 
 abbrev pub invariant-loop-c : goal.invariant-loop-c
-invariant-loop-c l =
-    judged_from (policy_from l.transported l.allowing) l.n l.commands l.steps 0 ≡ judged_from (policy_from l.transported l.allowing) l.n l.commands l.steps l.c
-
-abbrev pub decreases-loop-c : goal.decreases-loop-c
-decreases-loop-c l = l.n - l.c
+invariant-loop-c l = judged_from l.policy l.n l.commands l.steps 0 ≡ judged_from l.policy l.n l.commands l.steps l.c
