@@ -4,6 +4,7 @@
 use Rattle.std.proofs.Common.{ℕ, ◌-◌, ◌≤◌, ◌<◌, ◌≡◌, ◌↔◌, refl, sym, ap, ◌∙◌, List, [], ◌∷◌, length, get_or, Option, Some, None, Result, Ok, Err, IfSome, IfOk, arith}
 use native.Mathlib.Decide.{dec_le}
 use Rattle.model.specs.Types.{code_of, type_of_code}
+use Rattle.model.specs.declared.Ty.{Ty}
 use Rattle.model.specs.declared.Fault.{Fault}
 use Rattle.model.specs.declared.Fault.TheVariants.{TooLong, BadLine, Misplaced, Malformed, TooMany, NotThere, Unlawful, WrongTables}
 use Rattle.model.specs.declared.Rule.{Rule}
@@ -91,6 +92,9 @@ lengths_decide_run t u (file φ) h = refl
 once : {A : Type 0} (number : A → ℕ) (back : ℕ → A) → ((x : A) → back (number x) ≡ x) → (x y : A) → number x ≡ number y → x ≡ y
 once number back taken x y e = sym (taken x) ∙ ap back e ∙ taken y
 
+pub type_once : (a b : Ty) → code_of a ≡ code_of b → a ≡ b
+type_once = once code_of type_of_code code_back
+
 fault_of : ℕ → Fault
 fault_of n = get_or (TooLong ∷ BadLine ∷ Misplaced ∷ Malformed ∷ TooMany ∷ NotThere ∷ Unlawful ∷ []) (n - 1) WrongTables
 
@@ -134,7 +138,7 @@ refusal_once r s e d = let f = once fault_number fault_of fault_back r.fault s.f
 
 contents_once : (c d : Contents) → read_told (Ok c) ≡ read_told (Ok d) → c ≡ d
 contents_once c d e =
-    let type_is = once code_of type_of_code code_back c.policy.transported d.policy.transported (cc) in
+    let type_is = type_once c.policy.transported d.policy.transported (cc) in
     let set_is : c.policy.allowing ≡ d.policy.allowing = cc in
     let commands_are : c.commands ≡ d.commands = cc in
     let lines_are : c.lines ≡ d.lines = cc in
