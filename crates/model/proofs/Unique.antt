@@ -1,7 +1,8 @@
 -- What each public promise allows is one possibility only, in numbers and in the code's results, and nothing counts but the input's
 -- bytes and the tables' lengths.
 -- Assumes nothing.
-use Rattle.std.proofs.Common.{ℕ, ◌-◌, ◌≤◌, ◌<◌, ◌≡◌, ◌↔◌, refl, sym, ap, ◌∙◌, List, [], ◌∷◌, length, get_or, Option, Some, None, Result, Ok, Err, IfSome, IfOk, arith}
+use Rattle.std.proofs.Common.{ℕ, ◌-◌, ◌≤◌, ◌<◌, ◌≡◌, ◌↔◌, refl, sym, ap, ◌∙◌, List, [], ◌∷◌, length, get_or, arith}
+use Rattle.std.proofs.Common.{Option, Some, None, Result, Ok, Err, IfSome, IfOk}
 use native.Mathlib.Decide.{dec_le}
 use Rattle.model.specs.Types.{code_of, type_of_code}
 use Rattle.model.specs.declared.Ty.{Ty}
@@ -31,8 +32,8 @@ pub read_unique : {input : List ℕ} {lent left left' : Tables} {r r' : ReadAnsw
     → (r ≡ r') × (left ≡ left')
 read_unique h k = (h.answer ∙ sym k.answer, h.tables ∙ sym k.tables)
 
-pub verdict_unique : {input : List ℕ} {lent left left' : Tables} {r r' : Verdict} → VerdictIs input lent r left → VerdictIs input lent r' left'
-    → (r ≡ r') × (left ≡ left')
+pub verdict_unique : {input : List ℕ} {lent left left' : Tables} {r r' : Verdict} → VerdictIs input lent r left
+    → VerdictIs input lent r' left' → (r ≡ r') × (left ≡ left')
 verdict_unique h k = (h.answer ∙ sym k.answer, h.tables ∙ sym k.tables)
 
 pub run_unique : {input : List ℕ} {lent left left' : Tables} {r r' : RunAnswer} → RunIs input lent r left → RunIs input lent r' left'
@@ -173,7 +174,8 @@ judged_told_once (Err b) (Ok u) e = absurd (broken_not_accepted b e)
 judged_told_once (Err b) (Err c) e = ap Err (broken_once b c e)
 
 -- A refusal with number 4 and a broken rule with number 4 at step 0 have the same numbers, and no other two results do.
-pub verdict_told_once : (r s : Result (Unit {0}) Rejection) → ((x : Refusal) → (r ≡ Err (rejection.Refused x)) ↔ (s ≡ Err (rejection.Refused x)))
+pub verdict_told_once : (r s : Result (Unit {0}) Rejection)
+    → ((x : Refusal) → (r ≡ Err (rejection.Refused x)) ↔ (s ≡ Err (rejection.Refused x)))
     → verdict_told r ≡ verdict_told s → r ≡ s
 verdict_told_once (Err (rejection.Refused x)) s same e = sym ((same x).0 refl)
 verdict_told_once r (Err (rejection.Refused y)) same e = (same y).1 refl

@@ -53,7 +53,8 @@ unfolding written
 written_length [] = refl
 written_length (b ∷ bs) = let later = written_length bs in omega arith
 
-pub frame_ends : (frame : List ℕ) {before after : List ℕ} {at r : ℕ} → Put (written frame) at before r after → r ≡ at + (2 * length frame + 1)
+pub frame_ends : (frame : List ℕ) {before after : List ℕ} {at r : ℕ} → Put (written frame) at before r after
+    → r ≡ at + (2 * length frame + 1)
 frame_ends frame p = omega (arith, written_length frame)
 
 -- i bytes of the frame are written: to write the others from the place on gives the whole
@@ -97,7 +98,8 @@ frames_length i (code ∷ codes) =
     let later = frames_length (suc i) codes in
     simp (length-append, frame_length) (omega arith)
 
-pub lines_end : (codes : List ℕ) {before after : List ℕ} {at r : ℕ} → Put (coded_frames 0 codes) at before r after → r ≡ at + 19 * length codes
+pub lines_end : (codes : List ℕ) {before after : List ℕ} {at r : ℕ} → Put (coded_frames 0 codes) at before r after
+    → r ≡ at + 19 * length codes
 lines_end codes p = omega (arith, frames_length 0 codes)
 
 -- the first i lines are put: to put the others from the place on gives the whole
@@ -107,8 +109,8 @@ pub record Putting (codes : List ℕ) (at : ℕ) (before buffer : List ℕ) (pla
   pub as_long : length buffer ≡ length before
   pub rest : sets buffer place (coded_frames i (drop i codes)) ≡ sets before at (coded_frames 0 codes)
 
-pub putting_goes_on : {codes before buffer after bytes : List ℕ} {at place i r : ℕ} → Putting codes at before buffer place i → i < length codes
-    → bytes ≡ coded_frame i (get_or codes i 0) → Put (written bytes) place buffer r after
+pub putting_goes_on : {codes before buffer after bytes : List ℕ} {at place i r : ℕ} → Putting codes at before buffer place i
+    → i < length codes → bytes ≡ coded_frame i (get_or codes i 0) → Put (written bytes) place buffer r after
     → Putting codes at before after r (i + 1)
 unfolding coded_frames
 putting_goes_on {codes} {i = i} w more e p =
@@ -139,7 +141,12 @@ record Parts (row keys stopped mark code : ℕ) : Type 0 where
 
 parts_found : (row keys stopped mark : ℕ) → row < 65536 → keys < 65536 → stopped < 2 → mark < 2
     → Parts row keys stopped mark (row + 65536 * keys + 4294967296 * stopped + 8589934592 * mark + 17179869184)
-parts_found row keys stopped mark r k s m = record { row_is = omega arith; keys_are = omega arith; stopped_is = omega arith; mark_is = omega arith }
+parts_found row keys stopped mark r k s m = record {
+  row_is = omega arith;
+  keys_are = omega arith;
+  stopped_is = omega arith;
+  mark_is = omega arith;
+}
 
 stopped_is_bit : (o : Outcome) → stopped_byte o < 2
 stopped_is_bit (value v) = omega arith
@@ -182,5 +189,5 @@ pub report_printed : {before with_verdict with_lines after codes first last : Li
     → last ≡ end_bytes ending breach → Put (written last) k with_lines r after
     → (fs : List Finished) → Lines fs codes → Printed (report_bytes v fs ending breach) (length before) r after
 report_printed v ending breach empty room few f p q l s fs lines =
-    rw (lines_decoded lines) at
-    (put_on_zeros empty (simp (length-append, written_length, frames_length) (omega arith)) (put_then_put (put_then_put (rw f at p) q) (rw l at s)))
+    let whole = put_then_put (put_then_put (rw f at p) q) (rw l at s) in
+    rw (lines_decoded lines) at (put_on_zeros empty (simp (length-append, written_length, frames_length) (omega arith)) whole)

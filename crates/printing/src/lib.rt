@@ -114,7 +114,9 @@ fn put_lines(buffer: &mut [u8], at: usize, codes: &[u64]) -> usize
 
 // The one frame of a refused file, into a buffer that is all zero. The answer is how many bytes were written.
 pub fn print_refusal(buffer: &mut [u8], refusal: Refusal) -> usize
-    requires { (buffer.old ≡ zeros (length buffer.old)) × (9 ≤ length buffer.old) × (refusal.frame < 65536) }
+    requires empty { buffer.old ≡ zeros (length buffer.old) }
+    requires room { 9 ≤ length buffer.old }
+    requires frame { refusal.frame < 65536 }
     ensures { Printed (written (refusal_frame (fault_number refusal.fault) refusal.frame)) (length buffer.old) result buffer.new }
 {
     put_frame(buffer, 0, &refusal_frame(refusal))
@@ -127,8 +129,14 @@ pub fn print_report(
     outcomes: &[u64],
     ran: Ran,
 ) -> usize
-    requires { (buffer.old ≡ zeros (length buffer.old)) × (19476 ≤ length buffer.old) × VerdictFits (judged_told judged) × (length outcomes.now ≤ 1024) × (breach_told ran.first_breach < 65536) }
-    ensures { (fs : List Finished) → Lines fs outcomes.now → Printed (report_bytes (judged_told judged) fs (ending_number ran.ending) (breach_told ran.first_breach)) (length buffer.old) result buffer.new }
+    requires empty { buffer.old ≡ zeros (length buffer.old) }
+    requires room { 19476 ≤ length buffer.old }
+    requires verdict { VerdictFits (judged_told judged) }
+    requires lines { length outcomes.now ≤ 1024 }
+    requires breach { breach_told ran.first_breach < 65536 }
+    ensures { (fs : List Finished) → Lines fs outcomes.now
+        → Printed (report_bytes (judged_told judged) fs (ending_number ran.ending) (breach_told ran.first_breach))
+        (length buffer.old) result buffer.new }
 {
     let lines_at = put_frame(buffer, 0, &verdict_frame(judged));
     let end_at = put_lines(buffer, lines_at, outcomes);
