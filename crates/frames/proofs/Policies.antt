@@ -1,6 +1,6 @@
 -- Laws of the policy: which sets of templates are lawful, and what its frame comes to.
 -- Assumes nothing.
-use mathlib.Core.Path.{◌≡◌, refl, sym, ap, ◌∙◌, subst}
+use mathlib.Core.Path.{◌≡◌, refl, sym, ◌∙◌, subst}
 use mathlib.Core.Bool.{Bool, true, false, not, cond}
 use mathlib.Core.List.{List, ◌∷◌}
 use Prim.Native.Nat.{ℕ, zero, suc, ◌+◌, ◌-◌, ◌/◌, ◌%◌, ◌^◌, ◌≤◌, ◌<◌}
@@ -8,19 +8,19 @@ use native.Mathlib.Numerals.{add-one}
 use native.Mathlib.Decide.{dec_lt}
 use native.Mathlib.Omega.{arith}
 use lib.Dec.{T, eqb}
-use lib.ListN.{length, take, drop}
+use lib.ListN.{length, drop}
 use borrow.Author.Tests.{eq-eqb, ne_eqb, lt-ltb, lt-leb, le-leb, not-true}
 use Rattle.model.specs.Basics.{implies, every, up_from, ◌else◌then◌}
 use Rattle.model.specs.Text.{number_from}
 use Rattle.model.specs.Frame.{byte_at, nothing_read, policy_kind, body_refusal}
-use Rattle.model.specs.Types.{typed, type_of}
+use Rattle.model.specs.Types.{typed, type_of, type_of_code}
 use Rattle.model.specs.declared.Ty.TheVariants.{Un}
 use Rattle.model.specs.Policy.{allows, lawful}
 use Rattle.model.proofs.Tests.{and_left, and_right}
 use Rattle.frames.specs.Turn.{turn_of}
-use Rattle.frames.specs.Parts.{NumberIs, Takes}
-use Rattle.frames.specs.declared.Turn.TheVariants as turn
-use Rattle.frames.proofs.Lists.{is_true, whole_rest}
+use Rattle.frames.specs.Parts.{Takes}
+use Rattle.frames.specs.Turn as turn
+use Rattle.frames.proofs.Lists.{is_true}
 use Rattle.frames.proofs.Turns.{refused, is_policy, taken, is_in_place}
 
 -- ---- the templates that have A without S
@@ -58,7 +58,6 @@ good set m = implies (allows set m) (typed (type_of m))
 
 -- the invariant: the templates from m on decide
 pub record Judging (set m : ℕ) : Type 0 where
-  pub within : m ≤ 64
   pub same : lawful (record { transported = Un; allowing = set }) ≡ every (good set) (up_from m (64 - m))
 
 implied : (b : Bool) → implies b true ≡ true
@@ -72,7 +71,7 @@ module _ {set m : ℕ} (v : Judging set m) where
     next_template = let e : 64 - m ≡ suc (64 - (m + 1)) = omega arith in rw (e, add-one)
 
     past_good : good set m ≡ true → Judging set (m + 1)
-    past_good h = record { within = omega arith; same = v.same ∙ rw (next_template, h) }
+    past_good h = record { same = v.same ∙ rw (next_template, h) }
 
     pub past_other : (m % 4 ≡ 2 → ⊥) → Judging set (m + 1)
     past_other h = past_good (rw (has_type m more h) (implied (allows set m)))
@@ -102,22 +101,19 @@ module _ (f : List ℕ) (kind : byte_at f 0 ≡ 1) where
     pub policy_type : 5 < byte_at f 1 → (n m : ℕ) (h a k s : List ℕ) → Takes 0 n m f (turn.Refused 4) h a k s h a k s
     policy_type h = policy_refused 3 (rw (eq-eqb (length f) 10 whole, lt-leb (byte_at f 1) 5 h))
 
-    module _ (known : byte_at f 1 ≤ 5) (set : ℕ) (is : NumberIs (take (length f - 2) (drop 2 f)) set)
+    module _ (known : byte_at f 1 ≤ 5) (set : ℕ) (is : set ≡ number_from 0 (drop 2 f))
         (r : Bool) (decides : r ≡ lawful (record { transported = Un; allowing = set })) where
-      the_set : set ≡ number_from 0 (drop 2 f)
-      the_set = is.value ∙ ap (number_from 0) (whole_rest 2 f)
-
       decided : body_refusal nothing_read.file policy_kind f ≡ (r else 7 then 0)
-      decided = rw (eq-eqb (length f) 10 whole, le-leb (byte_at f 1) 5 known, decides, the_set)
+      decided = rw (eq-eqb (length f) 10 whole, le-leb (byte_at f 1) 5 known, decides, is)
 
       pub policy_unlawful : r ≡ false → (n m : ℕ) (h a k s : List ℕ) → Takes 0 n m f (turn.Refused 7) h a k s h a k s
       policy_unlawful h = policy_refused 6 (decided ∙ rw (h))
 
-      pub policy_taken : r ≡ true → (n m : ℕ) (h a k s : List ℕ) → Takes 0 n m f (turn.Policy (byte_at f 1) set) h a k s h a k s
+      pub policy_taken : r ≡ true → (n m : ℕ) (h a k s : List ℕ) → Takes 0 n m f (turn.Policy (record { transported = type_of_code (byte_at f 1); allowing = set })) h a k s h a k s
       unfolding turn_of
       policy_taken good-set n m h a k s c counted held =
           let e = is_in_place f (is_policy f kind) counted refl in
-          taken f (is_policy f kind) (e ∙ decided ∙ rw (good-set)) (rw the_set)
+          taken f (is_policy f kind) (e ∙ decided ∙ rw (good-set)) (rw is)
           (record {
             heads_are = held.heads_are;
             arguments_are = held.arguments_are;
