@@ -1,7 +1,7 @@
 -- What each public promise allows is one possibility only, in numbers and in the code's results, and nothing counts but the input's
 -- bytes and the tables' lengths.
 -- Assumes nothing.
-use Rattle.std.proofs.Common.{ℕ, ◌-◌, ◌≤◌, ◌<◌, ◌≡◌, ◌↔◌, refl, sym, ap, ◌∙◌, List, [], ◌∷◌, length, get_or, arith}
+use Rattle.std.proofs.Common.{ℕ, ◌-◌, ◌≤◌, ◌<◌, ◌≡◌, ◌≢◌, ◌↔◌, refl, sym, ap, ◌∙◌, List, [], ◌∷◌, length, get_or, arith}
 use Rattle.std.proofs.Common.{Option, Some, None, Result, Ok, Err, IfSome, IfOk}
 use native.Mathlib.Decide.{dec_le}
 use Rattle.model.specs.Types.{code_of, type_of_code}
@@ -196,15 +196,15 @@ ending_once (Some f) (Some g) e d =
     let full_is = once full_number full_of full_back f.full g.full e in
     ap Some (λ i. record { full = full_is i; line = d i })
 
-breach_once : (a b : Option ℕ) → IfSome a (λ i. i < 65535) → IfSome b (λ i. i < 65535) → breach_told a ≡ breach_told b → a ≡ b
+breach_once : (a b : Option ℕ) → IfSome a (λ i. i ≢ 65535) → IfSome b (λ i. i ≢ 65535) → breach_told a ≡ breach_told b → a ≡ b
 breach_once None None h k e = refl
-breach_once None (Some j) h k e = absurd (omega arith)
-breach_once (Some i) None h k e = absurd (omega arith)
+breach_once None (Some j) h k e = absurd (k (sym e))
+breach_once (Some i) None h k e = absurd (h e)
 breach_once (Some i) (Some j) h k e = ap Some e
 
--- 65535 is the number of no line, and stands for none that is breached
-pub run_told_once : (r s : Result Ran Refusal) → IfOk r (λ x. IfSome x.first_breach (λ i. i < 65535))
-    → IfOk s (λ x. IfSome x.first_breach (λ i. i < 65535)) → run_told r ≡ run_told s → r ≡ s
+-- 65535 stands for no breached line, so that a line with that number would be told as none
+pub run_told_once : (r s : Result Ran Refusal) → IfOk r (λ x. IfSome x.first_breach (λ i. i ≢ 65535))
+    → IfOk s (λ x. IfSome x.first_breach (λ i. i ≢ 65535)) → run_told r ≡ run_told s → r ≡ s
 run_told_once (Ok x) (Ok y) h k e =
     let ending_is = ending_once x.ending y.ending (cc) (cc) in
     let breach_is = breach_once x.first_breach y.first_breach h k (cc) in
@@ -212,6 +212,15 @@ run_told_once (Ok x) (Ok y) h k e =
 run_told_once (Ok x) (Err b) h k e = cc
 run_told_once (Err a) (Ok y) h k e = cc
 run_told_once (Err a) (Err b) h k e = ap Err (refusal_once a b (cc) (cc))
+
+told_apart : (r : Result Ran Refusal) → IfOk r (λ x. IfSome x.first_breach (λ i. i < 1024))
+    → IfOk r (λ x. IfSome x.first_breach (λ i. i ≢ 65535))
+told_apart (Ok x) h = go x.first_breach h
+  where
+    go : (a : Option ℕ) → IfSome a (λ i. i < 1024) → IfSome a (λ i. i ≢ 65535)
+    go (Some i) h = λ e. omega arith
+    go None h = tt
+told_apart (Err x) h = tt
 
 -- ---- so each promise allows one result only
 
@@ -230,8 +239,9 @@ module _ {input : List ℕ} {lent left left' : Tables} where
       let same = verdict_unique h k in
       (verdict_told_once _ _ (λ x. (λ e. (b x).1 ((a x).0 e), λ e. (a x).1 ((b x).0 e))) same.0, same.1)
 
-  -- where a first breached line has a number below 65535
-  pub run_one_result : {r s : Result Ran Refusal} → IfOk r (λ x. IfSome x.first_breach (λ i. i < 65535))
-      → IfOk s (λ x. IfSome x.first_breach (λ i. i < 65535)) → RunIs input lent (run_told r) left → RunIs input lent (run_told s) left'
+  -- where a first breached line is one of the 1,024 that there can be
+  pub run_one_result : {r s : Result Ran Refusal} → IfOk r (λ x. IfSome x.first_breach (λ i. i < 1024))
+      → IfOk s (λ x. IfSome x.first_breach (λ i. i < 1024)) → RunIs input lent (run_told r) left → RunIs input lent (run_told s) left'
       → (r ≡ s) × (left ≡ left')
-  run_one_result a b h k = let same = run_unique h k in (run_told_once _ _ a b same.0, same.1)
+  run_one_result {r} {s} a b h k =
+      let same = run_unique h k in (run_told_once r s (told_apart r a) (told_apart s b) same.0, same.1)
