@@ -98,7 +98,8 @@ short_parse input h = rw (le-leb (length input) 32768 h)
 
 -- ---- the line that begins at `at`
 
-module _ {input : List ℕ} {t : FileTables} {at frame : ℕ} {counts : Counts} {policy : Option Policy} (p : Progress input t at frame counts policy)
+module _ {input : List ℕ} {t : FileTables} {at frame : ℕ} {counts : Counts} {policy : Option Policy}
+    (p : Progress input t at frame counts policy)
     {l : TextLine} {ls : List TextLine} (split : lines_of (drop at input) ≡ l ∷ ls) where
   abbrev c : Reading
   c = p.reading
@@ -107,7 +108,8 @@ module _ {input : List ℕ} {t : FileTables} {at frame : ℕ} {counts : Counts} 
   g = bytes_of l.body
 
   -- the whole is this line's refusal, or what the rest comes to
-  unfold_line : unless_refused (line_refusal c l) frame (parse_from ls (suc frame) (after_frame c g)) ≡ parse_from (lines_of input) 0 nothing_read
+  unfold_line : unless_refused (line_refusal c l) frame (parse_from ls (suc frame) (after_frame c g))
+      ≡ parse_from (lines_of input) 0 nothing_read
   unfolding parse_from
   unfold_line = rw split at p.rest
 
@@ -151,7 +153,8 @@ module _ (g f : List ℕ) (len : ℕ) (cut : len ≡ min (length g) 68) (front :
 
 -- ---- what a turn's answer tells of the frame's refusal and kind
 
-refusal_of : (n : ℕ) (k : Kind) (f : List ℕ) (number : ℕ) → turn.Refused number ≡ turn_of n k f → (n ≡ 0 → k ≡ other_kind → ⊥) → (j : ℕ) × (n ≡ suc j) × (number ≡ suc j)
+refusal_of : (n : ℕ) (k : Kind) (f : List ℕ) (number : ℕ) → turn.Refused number ≡ turn_of n k f → (n ≡ 0 → k ≡ other_kind → ⊥)
+    → (j : ℕ) × (n ≡ suc j) × (number ≡ suc j)
 unfolding turn_of
 refusal_of zero policy_kind f number e other = absurd (let z : ◌≡◌ {A = ℕ} 0 1 = cc in omega arith)
 refusal_of zero command_kind f number e other = absurd (let z : ◌≡◌ {A = ℕ} 0 1 = cc in omega arith)
@@ -200,13 +203,16 @@ line_turn (suc n) k f e = absurd (let z : ◌≡◌ {A = ℕ} 0 1 = cc in omega 
 
 -- what taking the frame promises
 abbrev Takes : List ℕ → Turn → Counts → FileTables → FileTables → Type 0
-Takes f r counts t t' = (c : Reading) → Counted c (place_number counts.place) counts.commands counts.lines → HeldIn c.file t → TurnIn c f r t'
+Takes f r counts t t' =
+    (c : Reading) → Counted c (place_number counts.place) counts.commands counts.lines → HeldIn c.file t → TurnIn c f r t'
 
 -- what scanning the line promises
 abbrev Scans : List ℕ → ℕ → Option Scanned → List ℕ → List ℕ → Type 0
-Scans input at r before buffer = (l : TextLine) (ls : List TextLine) → lines_of (drop at input) ≡ l ∷ ls → ScanIs input at l ls r before buffer
+Scans input at r before buffer =
+    (l : TextLine) (ls : List TextLine) → lines_of (drop at input) ≡ l ∷ ls → ScanIs input at l ls r before buffer
 
-pub scan_broken : {input : List ℕ} {t : FileTables} {at frame : ℕ} {counts : Counts} {policy : Option Policy} → Progress input t at frame counts policy
+pub scan_broken : {input : List ℕ} {t : FileTables} {at frame : ℕ} {counts : Counts} {policy : Option Policy}
+    → Progress input t at frame counts policy
     → at < length input → {before buffer : List ℕ} {r : Option Scanned} → Scans input at r before buffer → r ≡ None
     → refused 2 frame ≡ parse_from (lines_of input) 0 nothing_read
 scan_broken {input} {at = at} p more scans broken =
@@ -233,7 +239,8 @@ scan_well input at more sized scans e =
     let next_is = told.2 in
     record { some_byte = omega arith; fits = omega (arith, line.length_kept); later = omega arith }
 
-module _ {input : List ℕ} {t : FileTables} {at frame : ℕ} {counts : Counts} {policy : Option Policy} (p : Progress input t at frame counts policy)
+module _ {input : List ℕ} {t : FileTables} {at frame : ℕ} {counts : Counts} {policy : Option Policy}
+    (p : Progress input t at frame counts policy)
     (more : at < length input) {before buffer f : List ℕ} {w : Scanned} {r : Option Scanned} {a : Turn}
     (sized : length before ≡ 68) (scans : Scans input at r before buffer) (well : r ≡ Some w) (part : f ≡ take w.len buffer)
     {t' : FileTables} (takes : Takes f a counts t t') (same : SameReferences t t') where
@@ -326,7 +333,8 @@ module _ {input : List ℕ} {t : FileTables} {at frame : ℕ} {counts : Counts} 
       let counted_after = after_command p.counted f none told_command.1 in
       let farther = longer none in
       let is_in_place = (met (in_place p.reading.place (kind_of f)) 2 (body_refusal p.reading.file (kind_of f) f) none).0 in
-      let at_commands : p.reading.place ≡ 1 = eqb→eq p.reading.place 1 (subst (λ (k : Kind). T (in_place p.reading.place k)) told_command.1 is_in_place) in
+      let at_commands : p.reading.place ≡ 1 =
+      eqb→eq p.reading.place 1 (subst (λ (k : Kind). T (in_place p.reading.place k)) told_command.1 is_in_place) in
       let one : place_number counts.place ≡ 1 = p.counted.place_is ∙ at_commands in
       record {
         reading = after_frame p.reading f;
@@ -372,7 +380,8 @@ refusal_framed input n k t short e =
 
 -- ---- the end of the input
 
-module _ {input : List ℕ} {t : FileTables} {at frame : ℕ} {counts : Counts} {policy : Option Policy} (p : Progress input t at frame counts policy) (over : length input ≤ at) where
+module _ {input : List ℕ} {t : FileTables} {at frame : ℕ} {counts : Counts} {policy : Option Policy}
+    (p : Progress input t at frame counts policy) (over : length input ≤ at) where
   end_is : cond (eqb p.reading.place 0) (refused 3 0) (file p.reading.file) ≡ parse_from (lines_of input) 0 nothing_read
   unfolding parse_from
   end_is = rw (drop_of_length-le input over, lines_none) at p.rest
@@ -401,7 +410,8 @@ pub some_told : {A E : Type 0} (o : Option A) {x : A} (e : E) → Ok x ≡ ok_or
 some_told None e q = absurd (let z : ◌≡◌ {A = ℕ} 0 1 = cc in omega arith)
 some_told (Some x) e q = ap Some (cc)
 
-pub fault_told : (r : Result TakenTurn Fault) (k : ℕ) {d : Refusal} → Err d ≡ located k r → (turn_told r ≡ turn.Refused (fault_number d.fault)) × (d.frame ≡ k)
+pub fault_told : (r : Result TakenTurn Fault) (k : ℕ) {d : Refusal} → Err d ≡ located k r
+    → (turn_told r ≡ turn.Refused (fault_number d.fault)) × (d.frame ≡ k)
 fault_told (Ok t) k q = absurd (let z : ◌≡◌ {A = ℕ} 0 1 = cc in omega arith)
 fault_told (Err e) k {d} q = let same : d ≡ record { fault = e; frame = k } = cc in (rw same, rw same)
 

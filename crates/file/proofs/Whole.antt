@@ -36,8 +36,10 @@ pub record AreIn (t : FileTables) (heads arguments commands steps : List ℕ) : 
   pub steps_are : steps ≡ t.steps.now
 
 -- a refusal leaves what was cleared once more, and a file what was held
-pub refusal_left : (p : Parsed) (r : Result Contents Refusal) (t t' : FileTables) {heads arguments commands steps : List ℕ} → FramedIs p (read_told r) t
-    → is_err r ≡ true → LengthsIn t → ZerosFor t t' → AreIn t' heads arguments commands steps → LeftIs p (read_told r) heads arguments commands steps
+pub refusal_left : (p : Parsed) (r : Result Contents Refusal) (t t' : FileTables) {heads arguments commands steps : List ℕ}
+    → FramedIs p (read_told r) t
+    → is_err r ≡ true → LengthsIn t → ZerosFor t t' → AreIn t' heads arguments commands steps
+    → LeftIs p (read_told r) heads arguments commands steps
 unfolding read_answer
 refusal_left (refused n k) r t t' f e long zero are =
     record {
@@ -52,10 +54,12 @@ refusal_left (refused n k) r t t' f e long zero are =
 refusal_left (file φ) (Ok c) t t' f e long zero are = absurd (false≢true e)
 refusal_left (file φ) (Err d) t t' f e long zero are = let told = f.answer in absurd (let z : ◌≡◌ {A = ℕ} 0 1 = cc in omega arith)
 
-pub file_left : (p : Parsed) (r : Result Contents Refusal) (t : FileTables) {heads arguments commands steps : List ℕ} → FramedIs p (read_told r) t
+pub file_left : (p : Parsed) (r : Result Contents Refusal) (t : FileTables) {heads arguments commands steps : List ℕ}
+    → FramedIs p (read_told r) t
     → is_err r ≡ false → AreIn t heads arguments commands steps → LeftIs p (read_told r) heads arguments commands steps
 unfolding read_answer
-file_left (file φ) r t f e are = record { answer = f.answer; left = rw (are.heads_are, are.arguments_are, are.commands_are, are.steps_are) f.held }
+file_left (file φ) r t f e are =
+    record { answer = f.answer; left = rw (are.heads_are, are.arguments_are, are.commands_are, are.steps_are) f.held }
 file_left (refused n k) (Ok c) t f e are = let told = f.answer in absurd (let z : ◌≡◌ {A = ℕ} 0 1 = cc in omega arith)
 file_left (refused n k) (Err d) t f e are = absurd (false≢true (sym e))
 
@@ -115,7 +119,8 @@ cleared_ready lent {heads} {arguments} {commands} {steps} e z =
       all_zero = record { heads_zero = h; arguments_zero = a; commands_zero = c; steps_zero = s };
     }
 
-pub all_cleared_refused : (input : List ℕ) (lent left : Tables) → right_lengths lent ≡ false → left ≡ cleared lent → ReadIs input lent (read.Refused 15 0) left
+pub all_cleared_refused : (input : List ℕ) (lent left : Tables) → right_lengths lent ≡ false → left ≡ cleared lent
+    → ReadIs input lent (read.Refused 15 0) left
 unfolding read_into read_answer tables_read
 all_cleared_refused input lent left e are = record { answer = rw e; tables = rw (e, are) }
 
@@ -131,16 +136,20 @@ beside_cleared lent heads arguments commands steps = record {
   steps = steps;
 }
 
-left_tables : (lent : Tables) (heads arguments commands steps : List ℕ) (p : Parsed) → AllLengths lent → Left p heads arguments commands steps
+left_tables : (lent : Tables) (heads arguments commands steps : List ℕ) (p : Parsed) → AllLengths lent
+    → Left p heads arguments commands steps
     → beside_cleared lent heads arguments commands steps ≡ tables_read lent p
 unfolding tables_read
 left_tables lent heads arguments commands steps (refused n k) long h =
-    rw (long.heads_length, long.arguments_length, long.commands_length, long.steps_length, h.heads_zero, h.arguments_zero, h.commands_zero, h.steps_zero)
+    rw (long.heads_length, long.arguments_length, long.commands_length, long.steps_length)
+    (rw (h.heads_zero, h.arguments_zero, h.commands_zero, h.steps_zero))
 left_tables lent heads arguments commands steps (file φ) long h =
     rw (long.rows_length, long.keys_length, long.outcomes_length, h.heads_are, h.arguments_are, h.commands_are, h.steps_are)
 
-pub whole_read : (input : List ℕ) (lent left : Tables) (r : ReadAnswer) (heads arguments commands steps : List ℕ) → right_lengths lent ≡ true
-    → LeftIs (parse input) r heads arguments commands steps → left ≡ beside_cleared lent heads arguments commands steps → ReadIs input lent r left
+pub whole_read : (input : List ℕ) (lent left : Tables) (r : ReadAnswer) (heads arguments commands steps : List ℕ)
+    → right_lengths lent ≡ true
+    → LeftIs (parse input) r heads arguments commands steps → left ≡ beside_cleared lent heads arguments commands steps
+    → ReadIs input lent r left
 unfolding read_into
 whole_read input lent left r heads arguments commands steps e h are =
     let right = left_tables lent heads arguments commands steps (parse input) (lengths_right lent e) h.left in

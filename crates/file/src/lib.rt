@@ -127,7 +127,15 @@ fn right_lengths(
     commands: &[u64],
     steps: &[u64],
 ) -> bool
-    ensures { result ≡ right_lengths (record { rows = rows.now; keys = keys.now; heads = heads.now; arguments = arguments.now; outcomes = outcomes.now; commands = commands.now; steps = steps.now }) }
+    ensures { result ≡ right_lengths (record {
+      rows = rows.now;
+      keys = keys.now;
+      heads = heads.now;
+      arguments = arguments.now;
+      outcomes = outcomes.now;
+      commands = commands.now;
+      steps = steps.now;
+    }) }
 {
     rows.len() == 4096
         && keys.len() == 256

@@ -112,3 +112,5 @@ module _ {f : List ℕ} {code k i : ℕ} (v : Coding f code k i) where
 
   pub coding_done : i ≤ 0 → code ≡ args_code (args_of (drop 4 f))
   coding_done h = let e : i ≡ 0 = omega arith in rw e at v.is
+
+pub ruleset coding = (coding_start, code_fits, coding_turn, coding_done)

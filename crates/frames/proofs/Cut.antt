@@ -11,7 +11,8 @@ use lib.ListN.{length, take}
 use lib.Seq.{take_all, length-take-le, get_or-take}
 use borrow.Author.Tests.{ne_eqb, lt-leb}
 use Rattle.model.specs.Basics.{◌else◌then◌}
-use Rattle.model.specs.Frame.{File, Reading, Kind, policy_kind, command_kind, line_kind, other_kind, byte_at, command_formed, line_formed, kind_of, in_place, body_refusal, frame_refusal}
+use Rattle.model.specs.Frame.{File, Reading, Kind, policy_kind, command_kind, line_kind, other_kind, byte_at, command_formed, line_formed}
+use Rattle.model.specs.Frame.{kind_of, in_place, body_refusal, frame_refusal}
 
 -- ---- a frame of 68 bytes is not formed, of whatever kind it is
 

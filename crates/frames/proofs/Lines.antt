@@ -13,7 +13,8 @@ use Rattle.model.specs.Basics.{◌else◌then◌, every}
 use Rattle.model.specs.Step.{Command}
 use Rattle.model.specs.Token.{command_at}
 use Rattle.model.specs.Session.{Arg}
-use Rattle.model.specs.Frame.{Reading, byte_at, args_of, arg_names, line_by, line_of, head_fits, line_formed, line_names, line_kind, body_refusal}
+use Rattle.model.specs.Frame.{Reading, byte_at, args_of, arg_names, line_by, line_of, head_fits, line_formed, line_names, line_kind}
+use Rattle.model.specs.Frame.{body_refusal}
 use Rattle.model.specs.Tables.{padded, command_code, head_code, args_code, args_of_line}
 use Rattle.frames.specs.Turn.{turn_of, Counted}
 use Rattle.frames.specs.Parts.{line_named, LineStored, Takes}
@@ -48,7 +49,8 @@ line_tells f b is good =
 -- ---- what a line names
 
 -- the table's answer is the model's
-module _ (cs : List Command) (commands : List ℕ) (held : commands ≡ padded 32 (map command_code cs)) (few : (i : ℕ) → (command_at cs i).params ≤ 4) where
+module _ (cs : List Command) (commands : List ℕ) (held : commands ≡ padded 32 (map command_code cs))
+    (few : (i : ℕ) → (command_at cs i).params ≤ 4) where
   called : (number count : ℕ) → (ltb number (length cs) && eqb count (get_or commands number 0 % 256))
       ≡ (ltb number (length cs) && eqb count (command_at cs number).params)
   called number count =
@@ -99,7 +101,8 @@ module _ (f : List ℕ) (kind : byte_at f 0 ≡ 3) (b : Bool) (is_b : b ≡ line
     count : length (args_of (drop 4 f)) ≡ byte_at f 3
     count = arguments_count f (byte_at f 3) tells.whole
 
-    refusal_is : {c : Reading} {place : ℕ} → Counted c place n m → k ≡ padded 32 (map command_code c.file.commands) → body_refusal c.file line_kind f ≡ x
+    refusal_is : {c : Reading} {place : ℕ} → Counted c place n m → k ≡ padded 32 (map command_code c.file.commands)
+        → body_refusal c.file line_kind f ≡ x
     unfolding line_named
     refusal_is {c} counted held =
         let cs = c.file.commands in
@@ -123,8 +126,10 @@ module _ (f : List ℕ) (kind : byte_at f 0 ≡ 3) (b : Bool) (is_b : b ≡ line
         let room = room_left true q m 1024 x is_x none in
         let head : byte_at f 1 + 256 * byte_at f 2 + 65536 * byte_at f 3 ≡ head_code (line_of f) =
         rw (← count) (head_by (byte_at f 1) (byte_at f 2) args tells.kind (rw count tells.fits)) in
-        let code : args_code args ≡ args_code (args_of_line (line_of f)) = ap args_code (sym (arguments_by (byte_at f 1) (byte_at f 2) args)) in
-        taken f (is_line f kind) (is_in_place f (is_line f kind) counted (le-leb 1 place here) ∙ refusal_is counted held.commands_are ∙ none) refl
+        let code : args_code args ≡ args_code (args_of_line (line_of f)) =
+        ap args_code (sym (arguments_by (byte_at f 1) (byte_at f 2) args)) in
+        taken f (is_line f kind)
+        (is_in_place f (is_line f kind) counted (le-leb 1 place here) ∙ refusal_is counted held.commands_are ∙ none) refl
         (record {
           heads_are = stored.head ∙ entry_written head_code 1024 m ls (line_of f) _ _ held.heads_are counted.lines_are room head;
           arguments_are = stored.arguments

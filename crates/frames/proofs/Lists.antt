@@ -7,7 +7,8 @@ use Prim.Native.Nat.{ℕ, zero, suc, ◌+◌, ◌-◌, ◌≤◌, ◌<◌}
 use native.Mathlib.Numerals.{add-one}
 use native.Mathlib.Omega.{arith}
 use lib.Dec.{T}
-use lib.ListN.{length, get_or, take, drop, set, replicate, length-append, length-map, length-replicate, replicate-append-replicate, length-drop, drop_of_length-le}
+use lib.ListN.{length, get_or, take, drop, set, replicate, length-append, length-map, length-replicate, replicate-append-replicate}
+use lib.ListN.{length-drop, drop_of_length-le}
 use lib.Seq.{drop-cons, take-suc, take_at, drop_at, drop-drop, set_at, take_all, length-take-le}
 use Rattle.frames.specs.Parts.{filled}
 
@@ -78,7 +79,12 @@ filled_map f k z xs = rw (map-append f xs (replicate (k - length xs) z), length-
 pub over_more : {A : Type 0} (z : A) (xs d : List A) (i : ℕ) → i < length xs → i < length d
     → set (take i xs ++ drop i d) i (get_or xs i z) ≡ take (i + 1) xs ++ drop (i + 1) d
 over_more z xs d i h l =
-    rw (drop_more z d i l, take_more z xs i h, set_at (take i xs) (get_or d i z) (drop (i + 1) d) (get_or xs i z) i (length-take-le i xs (omega arith)))
+    rw (
+      drop_more z d i l,
+      take_more z xs i h,
+      set_at (take i xs) (get_or d i z) (drop (i + 1) d) (get_or xs i z) i
+          (length-take-le i xs (omega arith)),
+    )
     (sym (append_assoc (take i xs) (get_or xs i z ∷ []) (drop (i + 1) d)))
 
 pub over_done : {A : Type 0} (xs d : List A) (i : ℕ) → length xs ≤ i → length d ≤ i → take i xs ++ drop i d ≡ xs

@@ -17,8 +17,11 @@ eight_bytes : (a b c d e f g h : ℕ)
 unfolding number_from
 eight_bytes a b c d e f g h = omega arith
 
-pub number_of : (s : List ℕ) → length s ≡ 8
-    → from_be_bytes w64 (get_or s 0 0 ∷ get_or s 1 0 ∷ get_or s 2 0 ∷ get_or s 3 0 ∷ get_or s 4 0 ∷ get_or s 5 0 ∷ get_or s 6 0 ∷ get_or s 7 0 ∷ []) ≡ number_from 0 s
+-- the eight bytes of a list
+abbrev pub eight : List ℕ → List ℕ
+eight s = get_or s 0 0 ∷ get_or s 1 0 ∷ get_or s 2 0 ∷ get_or s 3 0 ∷ get_or s 4 0 ∷ get_or s 5 0 ∷ get_or s 6 0 ∷ get_or s 7 0 ∷ []
+
+pub number_of : (s : List ℕ) → length s ≡ 8 → from_be_bytes w64 (eight s) ≡ number_from 0 s
 number_of [] n = absurd (omega arith)
 number_of (a ∷ []) n = absurd (omega arith)
 number_of (a ∷ b ∷ []) n = absurd (omega arith)

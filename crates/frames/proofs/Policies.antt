@@ -87,12 +87,15 @@ module _ {set m : ℕ} (v : Judging set m) where
   unfolding up_from
   lawful_done h = let e : 64 - m ≡ 0 = omega arith in sym (v.same ∙ rw e)
 
+pub ruleset judging = (past_other, past_barred, unlawful, lawful_done)
+
 -- ---- the frame
 
 module _ (f : List ℕ) (kind : byte_at f 0 ≡ 1) where
   policy_refused : (x : ℕ) → body_refusal nothing_read.file policy_kind f ≡ suc x → (n m : ℕ) (h a k s : List ℕ)
       → Takes 0 n m f (turn.Refused (suc x)) h a k s h a k s
-  policy_refused x e n m h a k s c counted held = refused (suc x) (is_in_place f (is_policy f kind) counted refl ∙ e) (λ q. omega arith) held
+  policy_refused x e n m h a k s c counted held =
+      refused (suc x) (is_in_place f (is_policy f kind) counted refl ∙ e) (λ q. omega arith) held
 
   pub policy_length : (length f ≡ 10 → ⊥) → (n m : ℕ) (h a k s : List ℕ) → Takes 0 n m f (turn.Refused 4) h a k s h a k s
   policy_length h = policy_refused 3 (rw (ne_eqb (length f) 10 h))
@@ -109,7 +112,8 @@ module _ (f : List ℕ) (kind : byte_at f 0 ≡ 1) where
       pub policy_unlawful : r ≡ false → (n m : ℕ) (h a k s : List ℕ) → Takes 0 n m f (turn.Refused 7) h a k s h a k s
       policy_unlawful h = policy_refused 6 (decided ∙ rw (h))
 
-      pub policy_taken : r ≡ true → (n m : ℕ) (h a k s : List ℕ) → Takes 0 n m f (turn.Policy (record { transported = type_of_code (byte_at f 1); allowing = set })) h a k s h a k s
+      pub policy_taken : r ≡ true → (n m : ℕ) (h a k s : List ℕ)
+          → Takes 0 n m f (turn.Policy (record { transported = type_of_code (byte_at f 1); allowing = set })) h a k s h a k s
       unfolding turn_of
       policy_taken good-set n m h a k s c counted held =
           let e = is_in_place f (is_policy f kind) counted refl in

@@ -135,7 +135,8 @@ returns_never xs none = returns_nowhere xs fails
     fails : (k : ℕ) → k < length xs → is_return (get_or xs k no_step) ≡ false
     fails k below =
         elim (dec_lt (position_or_len is_return xs) (length xs)) [
-          | yes some ↦ absurd (let z : ◌≡◌ {A = ℕ} 0 1 = cc (rw (lt-ltb (position_or_len is_return xs) (length xs) some) at none) in omega arith)
+          | yes some ↦ (let found = rw (lt-ltb (position_or_len is_return xs) (length xs) some) at none in
+              absurd (let z : ◌≡◌ {A = ℕ} 0 1 = cc found in omega arith))
           | no past ↦ fails_before_first is_return xs k no_step (omega arith)
         ]
 
@@ -175,7 +176,8 @@ module _ {xs : List Step} {d part : List ℕ} {i : ℕ} (v : Storing xs d part i
       record {
         all = v.all;
         room = v.room;
-        laid = rw (v.laid, coded) (over_more 0 (map step_code xs) d i (omega (arith, length-map xs step_code)) (omega (arith, v.all, v.room)));
+        laid = rw (v.laid, coded)
+            (over_more 0 (map step_code xs) d i (omega (arith, length-map xs step_code)) (omega (arith, v.all, v.room)));
       }
 
   pub store_done : length xs ≤ i → part ≡ map step_code xs

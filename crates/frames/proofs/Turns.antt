@@ -11,7 +11,8 @@ use Rattle.model.specs.declared.Fault.{Fault}
 use Rattle.model.specs.declared.Fault.TheVariants.{TooLong, BadLine, Misplaced, Malformed, TooMany, NotThere, Unlawful, WrongTables}
 use Rattle.model.specs.Numbers.{fault_number}
 use Rattle.model.specs.Basics.{◌else◌then◌}
-use Rattle.model.specs.Frame.{Reading, Kind, byte_at, policy_kind, command_kind, line_kind, kind_of, in_place, body_refusal, frame_refusal, with_frame}
+use Rattle.model.specs.Frame.{Reading, Kind, byte_at, policy_kind, command_kind, line_kind, kind_of, in_place, body_refusal, frame_refusal}
+use Rattle.model.specs.Frame.{with_frame}
 use Rattle.model.specs.Tables.{Held}
 use Rattle.model.proofs.Tests.{met}
 use Rattle.frames.specs.Turn.{Turn, turn_of, filed, Counted, TurnIs}
@@ -20,7 +21,8 @@ use Rattle.frames.specs.Turn as turn
 use Rattle.frames.proofs.Lists.{is_true}
 
 -- the answer and the tables, by what the refusal is
-turn_by : {c : Reading} {f h a k s : List ℕ} {r : Turn} (x : ℕ) → frame_refusal c f ≡ x → r ≡ turn_of x (kind_of f) f → Held (filed x c f) h a k s
+turn_by : {c : Reading} {f h a k s : List ℕ} {r : Turn} (x : ℕ) → frame_refusal c f ≡ x → r ≡ turn_of x (kind_of f) f
+    → Held (filed x c f) h a k s
     → TurnIs c f r h a k s
 turn_by {c} {f} {h} {a} {k} {s} x e is held = record {
   answer = is ∙ ap (λ (y : ℕ). turn_of y (kind_of f) f) (sym e);
@@ -76,7 +78,8 @@ module _ (f : List ℕ) {c : Reading} {kind : Kind} (is : kind_of f ≡ kind) wh
 
 -- ---- a frame in its place, or out of it
 
-pub misplaced : (f : List ℕ) (place n m : ℕ) (h a k s : List ℕ) → in_place place (kind_of f) ≡ false → Takes place n m f (turn.Refused 3) h a k s h a k s
+pub misplaced : (f : List ℕ) (place n m : ℕ) (h a k s : List ℕ) → in_place place (kind_of f) ≡ false
+    → Takes place n m f (turn.Refused 3) h a k s h a k s
 misplaced f place n m h a k s out c counted held = refused 3 (rw (← counted.place_is, out)) (λ q. omega arith) held
 
 pub command_place : (f : List ℕ) (place : ℕ) → byte_at f 0 ≡ 2 → in_place place (kind_of f) ≡ true → place ≡ 1

@@ -1,5 +1,6 @@
 -- What the inner functions promise: decoded steps and arguments, and a frame of which the place is known.
-use Rattle.std.specs.Prelude.{ℕ, ◌+◌, ◌-◌, ◌*◌, ◌%◌, ◌<◌, ◌≡◌, Bool, true, cond, ◌&&◌, List, [], ◌∷◌, ◌++◌, map, leb, ltb, eqb, length, take, drop, get_or, set, replicate}
+use Rattle.std.specs.Prelude.{ℕ, ◌+◌, ◌-◌, ◌*◌, ◌%◌, ◌<◌, ◌≡◌, Bool, true, cond, ◌&&◌, List, [], ◌∷◌, ◌++◌, map, leb, ltb, eqb, length}
+use Rattle.std.specs.Prelude.{take, drop, get_or, set, replicate}
 use Rattle.model.specs.Basics.{every}
 use Rattle.model.specs.Text.{number_from}
 use Rattle.model.specs.Frame.{Reading, byte_at, steps_of, args_of, arg_names}

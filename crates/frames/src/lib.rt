@@ -82,7 +82,8 @@ fn lowest(formed: bool, room: bool, named: bool) -> Result<(), Fault>
 // Any frame, after what was read before it.
 pub fn take_frame(f: &[u8], counts: Counts, tables: &mut FileTables<'_>) -> Result<Turn, Fault>
     requires { Ready f.now counts tables.old }
-    ensures answer { (c : Reading) → Counted c (place_number counts.place) counts.commands counts.lines → HeldIn c.file tables.old → TurnIn c f.now (turn_told result) tables.new }
+    ensures answer { (c : Reading) → Counted c (place_number counts.place) counts.commands counts.lines → HeldIn c.file tables.old
+        → TurnIn c f.now (turn_told result) tables.new }
     ensures same_references { SameReferences tables.old tables.new }
 {
     if !counts.place.allows(f) {

@@ -45,7 +45,6 @@ fn argument_names(m: usize, x: u16) -> bool
     x >= 0x8000 || usize::from(x) < m
 }
 
-#[tactic(auto, using(crate::proofs::Arguments::naming_turn, crate::proofs::Arguments::naming_fails, crate::proofs::Arguments::naming_done))]
 fn every_argument_names(f: &[u8], m: usize) -> bool
     requires { length f.now ≡ 4 + 2 * byte_at f.now 3 }
     ensures { result ≡ every (arg_names m) (args_of (drop 4 f.now)) }
@@ -77,7 +76,7 @@ fn line_names(f: &[u8], n: usize, m: usize, tables: &FileTables<'_>) -> bool
 }
 
 // The arguments in one number, the first lowest.
-#[tactic(auto, using(crate::proofs::Arguments::coding_start, crate::proofs::Arguments::code_fits, crate::proofs::Arguments::coding_turn, crate::proofs::Arguments::coding_done))]
+#[tactic(auto, using(crate::proofs::Arguments::coding))]
 fn arguments_code(f: &[u8]) -> u64
     requires { (length f.now ≡ 4 + 2 * byte_at f.now 3) × (byte_at f.now 3 ≤ 4) }
     ensures { result ≡ args_code (args_of (drop 4 f.now)) }
@@ -91,7 +90,8 @@ fn arguments_code(f: &[u8]) -> u64
 
 // Session line m, its head and its arguments.
 fn store_line(f: &[u8], m: usize, tables: &mut FileTables<'_>)
-    requires { (length f.now ≡ 4 + 2 * byte_at f.now 3) × (byte_at f.now 3 ≤ 4) × (m < 1024) × (length tables.old.heads.now ≡ 1024) × (length tables.old.arguments.now ≡ 1024) }
+    requires { (length f.now ≡ 4 + 2 * byte_at f.now 3) × (byte_at f.now 3 ≤ 4) × (m < 1024)
+        × (length tables.old.heads.now ≡ 1024) × (length tables.old.arguments.now ≡ 1024) }
     ensures stored { LineStored f.now m tables.old tables.new }
     ensures same_references { SameReferences tables.old tables.new }
 {
@@ -100,7 +100,8 @@ fn store_line(f: &[u8], m: usize, tables: &mut FileTables<'_>)
 }
 
 pub fn line_turn(f: &[u8], n: usize, m: usize, tables: &mut FileTables<'_>) -> Result<Turn, Fault>
-    requires { (byte_at f.now 0 ≡ 3) × (n ≤ length tables.old.commands.now) × (length tables.old.heads.now ≡ 1024) × (length tables.old.arguments.now ≡ 1024) }
+    requires { (byte_at f.now 0 ≡ 3) × (n ≤ length tables.old.commands.now)
+        × (length tables.old.heads.now ≡ 1024) × (length tables.old.arguments.now ≡ 1024) }
     ensures answer { (place : ℕ) → 1 ≤ place → TakesIn place n m f.now (turn_told result) tables.old tables.new }
     ensures same_references { SameReferences tables.old tables.new }
 {

@@ -11,7 +11,7 @@ use crate::Turn;
 use model::{Fault, Policy, Ty};
 
 // No template of the set has A, which weighs 2, without S, which weighs 1.
-#[tactic(auto, using(crate::proofs::Policies::past_other, crate::proofs::Policies::past_barred, crate::proofs::Policies::unlawful, crate::proofs::Policies::lawful_done))]
+#[tactic(auto, using(crate::proofs::Policies::judging))]
 fn is_lawful(set: u64) -> bool
     ensures { result ≡ lawful (record { transported = Un; allowing = set }) }
 {

@@ -30,7 +30,8 @@ worth b = cond (leb 48 b && leb b 57) (b - 48) (cond (leb 97 b && leb b 102) (b 
 
 pub byte_worth : (b : ℕ) → b < 256 → digit_value b ≡ worth b
 unfolding digit_value up_from
-byte_worth b h = sym (eqb→eq (worth b) (digit_value b) (every_in_range (λ x. eqb (worth x) (digit_value x)) 0 256 tt b (omega arith) (omega arith)))
+byte_worth b h =
+    sym (eqb→eq (worth b) (digit_value b) (every_in_range (λ x. eqb (worth x) (digit_value x)) 0 256 tt b (omega arith) (omega arith)))
 
 -- ---- pairs of digits
 
@@ -91,7 +92,8 @@ never_ends : (s : List ℕ) → ((k : ℕ) → k < length s → is_newline (get_
     → lines_of s ≡ l ∷ ls → l.ended ≡ false
 unfolding lines_of
 never_ends [] none l ls q = absurd (let z : ◌≡◌ {A = ℕ} 0 1 = cc in omega arith)
-never_ends (x ∷ s) none l ls q = at (never_ends s (λ k below. none (suc k) (omega arith))) (lines_of s) refl (rw (none 0 (omega arith)) at q)
+never_ends (x ∷ s) none l ls q =
+    at (never_ends s (λ k below. none (suc k) (omega arith))) (lines_of s) refl (rw (none 0 (omega arith)) at q)
   where
     at : ((m : TextLine) (ms : List TextLine) → lines_of s ≡ m ∷ ms → m.ended ≡ false) → (ts : List TextLine) → lines_of s ≡ ts
         → on_first x ts ≡ l ∷ ls → l.ended ≡ false
@@ -139,7 +141,8 @@ module _ (l : TextLine) (t : T (well_written l)) where
       some (x ∷ y ∷ p) h t = zero-lt-suc _
 
 -- what an answer says of the line
-module _ {input : List ℕ} {at : ℕ} {l : TextLine} {ls : List TextLine} {before exit : List ℕ} {r : Option Scanned} (is : ScanIs input at l ls r before exit) where
+module _ {input : List ℕ} {at : ℕ} {l : TextLine} {ls : List TextLine} {before exit : List ℕ} {r : Option Scanned}
+    (is : ScanIs input at l ls r before exit) where
   pub frame_answer : {w : Scanned} → r ≡ Some w → T (well_written l) × (w.len ≡ taken (length before) l) × (w.next ≡ after at l)
   unfolding scanned
   frame_answer {w} e = by (well_written l) (record { len = taken (length before) l; next = after at l }) (sym e ∙ is.answer)
@@ -195,7 +198,8 @@ module _ {digits before frame : List ℕ} {i : ℕ} (v : Writing digits before f
 
     pub no_low : 16 ≤ digit_value low → PairsAre digits None before frame
     no_low h =
-        unpaired (rw (pair_decides, le-ltb (digit_value low) 16 h, and-false (is_digit high), and-false (ltb 0 (length digits)))) v.length_kept
+        unpaired (rw (pair_decides, le-ltb (digit_value low) 16 h, and-false (is_digit high), and-false (ltb 0 (length digits))))
+        v.length_kept
 
     module _ (high_is : digit_value high < 16) (low_is : digit_value low < 16) where
       decide_after : in_pairs digits ≡ in_pairs (drop (2 * (i + 1)) digits)
@@ -219,7 +223,8 @@ module _ {digits before frame : List ℕ} {i : ℕ} (v : Writing digits before f
           let same : min (i + 1) (length before) ≡ min i (length before) = omega (arith, v.length_kept) in
           record { decide = decide_after; front = rw (e, same) v.front; length_kept = rw e v.length_kept }
 
-  pub all_written : i ≡ length digits / 2 → (length digits ≡ 0 → ⊥) → length digits % 2 ≡ 0 → {n : ℕ} → n ≡ min (length digits / 2) (length frame)
+  pub all_written : i ≡ length digits / 2 → (length digits ≡ 0 → ⊥) → length digits % 2 ≡ 0 → {n : ℕ}
+      → n ≡ min (length digits / 2) (length frame)
       → PairsAre digits (Some n) before frame
   unfolding in_pairs
   all_written all some even {n} is =
@@ -236,7 +241,8 @@ module _ {digits before frame : List ℕ} {i : ℕ} (v : Writing digits before f
 
 -- what scan_line ensures of an answer
 abbrev pub Answers : List ℕ → ℕ → List ℕ → List ℕ → Option Scanned → Type 0
-Answers input at before exit r = (l : TextLine) (ls : List TextLine) → lines_of (drop at input) ≡ l ∷ ls → ScanIs input at l ls r before exit
+Answers input at before exit r =
+    (l : TextLine) (ls : List TextLine) → lines_of (drop at input) ≡ l ∷ ls → ScanIs input at l ls r before exit
 
 refused : {input : List ℕ} {at : ℕ} {l : TextLine} {ls : List TextLine} {before exit : List ℕ}
     → well_written l ≡ false → length exit ≡ length before → ScanIs input at l ls None before exit
@@ -252,7 +258,8 @@ module _ (input : List ℕ) (at : ℕ) (s : List ℕ) (rest_is : s ≡ drop at i
       fails : (k : ℕ) → k < length s → is_newline (get_or s k 0) ≡ false
       fails k below =
           elim (dec_lt (position_or_len is_newline s) (length s)) [
-            | yes some ↦ absurd (let z : ◌≡◌ {A = ℕ} 0 1 = cc (rw (lt-ltb (position_or_len is_newline s) (length s) some) at none) in omega arith)
+            | yes some ↦ (let found = rw (lt-ltb (position_or_len is_newline s) (length s) some) at none in
+                absurd (let z : ◌≡◌ {A = ℕ} 0 1 = cc found in omega arith))
             | no past ↦ fails_before_first is_newline s k 0 (omega arith)
           ]
 
@@ -274,7 +281,8 @@ module _ (input : List ℕ) (at : ℕ) (s : List ℕ) (rest_is : s ≡ drop at i
           by true x q = let z : ◌≡◌ {A = ℕ} 0 1 = cc in absurd (omega arith)
           by false x q = refl
 
-      pub scanned_well : {len next : ℕ} → r ≡ Some len → next ≡ at + n + 1 → Answers input at before exit (Some (record { len = len; next = next }))
+      pub scanned_well : {len next : ℕ} → r ≡ Some len → next ≡ at + n + 1
+          → Answers input at before exit (Some (record { len = len; next = next }))
       unfolding well_written scanned
       scanned_well {len} {next} e next_is l ls q =
           let told = line_is l ls q in

@@ -14,7 +14,8 @@ after at l = at + length l.body + 1
 unfoldable pub scanned : ℕ → ℕ → TextLine → Option Scanned
 scanned room at l = cond (well_written l) (Some (record { len = taken room l; next = after at l })) None
 
--- the answer at the line l, with ls after it; a well written line's bytes stand at the front of the buffer; the next line begins at the place answered
+-- the answer at the line l, with ls after it; a well written line's bytes stand at the front of the buffer; the next line
+-- begins at the place answered
 pub record ScanIs (input : List ℕ) (at : ℕ) (l : TextLine) (ls : List TextLine) (r : Option Scanned) (before exit : List ℕ) : Type 0 where
   pub answer : r ≡ scanned (length before) at l
   pub front : T (well_written l) → take (taken (length before) l) exit ≡ take (taken (length before) l) (bytes_of l.body)

@@ -53,7 +53,8 @@ fn write_pairs(digits: &[u8], frame: &mut [u8]) -> Option<usize>
 // whole line is still checked.
 pub fn scan_line(input: &[u8], at: usize, frame: &mut [u8]) -> Option<Scanned>
     requires { at < length input.now }
-    ensures { (l : TextLine) (ls : List TextLine) → lines_of (drop at input.now) ≡ l ∷ ls → ScanIs input.now at l ls result frame.old frame.new }
+    ensures { (l : TextLine) (ls : List TextLine) → lines_of (drop at input.now) ≡ l ∷ ls
+        → ScanIs input.now at l ls result frame.old frame.new }
 {
     let rest = &input[at..];
     let digits = before_newline(rest)?;

@@ -5,7 +5,8 @@ use lib.Seq.{length-take-le}
 use native.Mathlib.Omega.{arith}
 use Rattle.std.proofs.lemmas.Result.{err_from_is_err_and}
 use Rattle.frames.specs.Turn.{turn_told}
-use Rattle.file.proofs.Progress.{start, same_start, same_further, front_some, scan_well, scan_broken, turn_refused, policy_taken, command_taken, line_taken}
+use Rattle.file.proofs.Progress.{start, same_start, same_further, front_some, scan_well, scan_broken, turn_refused, policy_taken}
+use Rattle.file.proofs.Progress.{command_taken, line_taken}
 use Rattle.file.proofs.Progress.{refusal_framed, all_framed, none_told, some_told, fault_told, turn_kept}
 use Rattle.file.proofs.read_frames.Goals as goal
 use Rattle.file.proofs.read_frames.Goals.{in-Policy, in-Command, in-Line}
@@ -54,7 +55,8 @@ returns-in_err-turn-clause-framed c =
     let fault = fault_told c.take_frame-turn.result _ (c.in_err-turn.ensures) in
     rw (p.1, p.2, fault.1)
     (refusal_framed _ _ _ _ c.requires.1
-    (turn_refused v.progress c.loop-at-test.true v.sized c.scan_line.ensures some refl c.take_frame-turn.ensures.answer c.take_frame-turn.ensures.same_references _ fault.0))
+    (turn_refused v.progress c.loop-at-test.true v.sized c.scan_line.ensures some refl c.take_frame-turn.ensures.answer
+    c.take_frame-turn.ensures.same_references _ fault.0))
 
 pub loop-at-smaller : goal.loop-at-smaller
 loop-at-smaller c =

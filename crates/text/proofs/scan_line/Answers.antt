@@ -12,7 +12,8 @@ returns-in_err-digits c =
 pub returns-in_err-len : goal.returns-in_err-len
 returns-in_err-len c =
     let here = c.args in
-    rw c.from_residual-in_err-len.ensures (broken _ _ _ (rest_of here.at here.input.now) (sym (c.in_ok-digits.ensures)) (c.in_err-len.ensures) refl)
+    rw c.from_residual-in_err-len.ensures
+    (broken _ _ _ (rest_of here.at here.input.now) (sym (c.in_ok-digits.ensures)) (c.in_err-len.ensures) refl)
 
 pub returns : goal.returns
 returns c =

@@ -4,7 +4,8 @@ use native.Mathlib.Omega.{arith}
 use Rattle.std.proofs.Common.{rules}
 use Rattle.text.proofs.Laws.{no_digits, digit_left, no_high, no_low, stored, full, all_written}
 use Rattle.text.proofs.write_pairs.Goals as goal
-use Rattle.text.proofs.write_pairs.Goals.{then-is_empty-via-then-is_empty, then-is_empty-via-else-is_empty+then-digits-ne0, then-i-frame, else-i-frame}
+use Rattle.text.proofs.write_pairs.Goals.{then-is_empty-via-then-is_empty, then-is_empty-via-else-is_empty+then-digits-ne0, then-i-frame}
+use Rattle.text.proofs.write_pairs.Goals.{else-i-frame}
 
 pub returns-then-is_empty : goal.returns-then-is_empty
 returns-then-is_empty c =

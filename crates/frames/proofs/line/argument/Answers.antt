@@ -7,4 +7,5 @@ use Rattle.frames.proofs.line.argument.Goals as goal
 
 pub returns : goal.returns
 returns c =
-    argument_is _ _ _ (omega (arith, c.type_inv.f (4 + 2 * c.args.i))) (omega (arith, c.type_inv.f (5 + 2 * c.args.i))) c.from_be_bytes.ensures
+    argument_is _ _ _ (omega (arith, c.type_inv.f (4 + 2 * c.args.i))) (omega (arith, c.type_inv.f (5 + 2 * c.args.i)))
+    c.from_be_bytes.ensures

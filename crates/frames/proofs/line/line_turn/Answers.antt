@@ -20,4 +20,5 @@ returns-in_err-lowest-clause-answer c =
 
 pub returns-clause-answer : goal.returns-clause-answer
 returns-clause-answer c =
-    line_taken _ (omega arith) _ c.line_formed.ensures c.if-not-line_formed.false _ _ _ _ c.line_names.ensures _ (c.in_ok-lowest.ensures) refl c.store_line.ensures.stored refl
+    line_taken _ (omega arith) _ c.line_formed.ensures c.if-not-line_formed.false _ _ _ _ c.line_names.ensures _ (c.in_ok-lowest.ensures)
+    refl c.store_line.ensures.stored refl

@@ -16,7 +16,9 @@ returns-then-f-ne10 c =
     ]
 
 pub returns-then-not-is_lawful : goal.returns-then-not-is_lawful
-returns-then-not-is_lawful c = policy_unlawful _ (omega arith) (omega arith) (omega arith) _ (c.number-allowing.ensures ∙ ap (number_from 0) (whole_rest 2 c.args.f.now)) _ c.is_lawful.ensures c.if-not-is_lawful.true
+returns-then-not-is_lawful c =
+    policy_unlawful _ (omega arith) (omega arith) (omega arith) _
+    (c.number-allowing.ensures ∙ ap (number_from 0) (whole_rest 2 c.args.f.now)) _ c.is_lawful.ensures c.if-not-is_lawful.true
 
 pub returns : goal.returns
 returns c =
