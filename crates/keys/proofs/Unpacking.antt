@@ -1,4 +1,4 @@
--- The records of the first n numbers: how one more is put among them, how many there are, and which stands at a place.
+-- The records of the first n numbers: how one more is put among them, and which stands at a place.
 -- Assumes nothing.
 use Prim.Native.Nat.{ℕ, ◌+◌, ◌≤◌, ◌<◌}
 use mathlib.Core.Path.{◌≡◌, sym, ap, ◌∙◌}
@@ -7,7 +7,8 @@ use native.Mathlib.Nat.{zero-add}
 use native.Mathlib.Numerals.{add-one}
 use native.Mathlib.Omega.{arith}
 use lib.ListN.{length, get_or, set, replicate, take, drop, length-map, length-replicate, get_or-map, get_or-append}
-use lib.Seq.{paste, paste-zero, paste-suc, length-paste, get_or-take, length-take-le}
+use lib.Seq.{paste, paste-zero, paste-suc, get_or-take, length-take-le}
+use Rattle.keys.specs.declared.KeyRecord.{KeyRecord}
 use Rattle.keys.specs.Stored.{no_record, record_of, records_of}
 
 -- ---- a list d whose first elements are replaced by those of s
@@ -24,9 +25,12 @@ module _ {A : Type 0} (d s : List A) (z : A) where
 
 -- ---- the records
 
-pub no_records : (keys : List ℕ) → replicate 256 no_record ≡ records_of keys 0
+pub no_records : (keys : List ℕ) (none : KeyRecord) → (none.handle ≡ 0) × ((none.key ≡ 0) × (none.template ≡ 0))
+    → replicate 256 none ≡ records_of keys 0
 unfolding records_of
-no_records keys = paste-zero (replicate 256 no_record) 0 (map record_of keys)
+no_records keys none zero =
+    let empty : none ≡ no_record = λ i. record { handle = zero.0 i; key = zero.1.0 i; template = zero.1.1 i } in
+    ap (replicate 256) empty ∙ paste-zero (replicate 256 no_record) 0 (map record_of keys)
 
 -- one number more
 pub records_more : (keys : List ℕ) (i : ℕ) → i < length keys → i < 256
@@ -37,17 +41,10 @@ records_more keys i h few =
     ∙ one_more (replicate 256 no_record) (map record_of keys) (record_of 0) i
     (omega (arith, length-replicate 256 no_record)) (omega (arith, length-map keys record_of))
 
-module _ (keys : List ℕ) (n : ℕ) (fits : n ≤ length keys) (few : n ≤ 256) where
-  pub as_many_records : length (records_of keys n) ≡ 256
-  unfolding records_of
-  as_many_records =
-      length-paste (replicate 256 no_record) 0 (map record_of keys) n
-      (omega (arith, length-replicate 256 no_record)) (omega (arith, length-map keys record_of))
-      ∙ length-replicate 256 no_record
-
-  -- the record at a place below n is that of the number there
-  pub record_at : (i : ℕ) → i < n → get_or (records_of keys n) i no_record ≡ record_of (get_or keys i 0)
-  unfolding records_of
-  record_at i h =
-      replaced_at (replicate 256 no_record) (map record_of keys) (record_of 0) n i (omega (arith, length-map keys record_of)) h
-      ∙ get_or-map record_of keys i 0
+-- the record at a place below n is that of the number there
+pub record_at : (keys : List ℕ) (n : ℕ) → n ≤ length keys → n ≤ 256 → (i : ℕ) → i < n
+    → get_or (records_of keys n) i no_record ≡ record_of (get_or keys i 0)
+unfolding records_of
+record_at keys n fits few i h =
+    replaced_at (replicate 256 no_record) (map record_of keys) (record_of 0) n i (omega (arith, length-map keys record_of)) h
+    ∙ get_or-map record_of keys i 0

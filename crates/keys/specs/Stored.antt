@@ -1,11 +1,9 @@
 -- Stored keys as the code has them: a number that packs each, the record that it unpacks to, and what a search for a handle comes to.
 -- A number is 2^40, 2^24 times the row of the handle, 2^8 times the row of the key, and the template.
-use Rattle.std.specs.Prelude.{ℕ, ◌/◌, ◌%◌, cond, List, map, eqb, ltb, take, get_or, replicate}
+use Rattle.std.specs.Prelude.{ℕ, ◌/◌, ◌%◌, cond, List, map, eqb, ltb, take, get_or, replicate, Option, Some, None}
 use Rattle.std.proofs.Math.Seq.{paste}
 use Rattle.model.specs.Basics.{index_by}
 use Rattle.keys.specs.declared.KeyRecord.{KeyRecord}
-use Rattle.keys.specs.declared.Found.{Found}
-use Rattle.keys.specs.declared.Found.TheVariants.{Key, Missing}
 
 -- ---- one number
 
@@ -24,9 +22,6 @@ template_of code = code % 64
 abbrev pub record_of : ℕ → KeyRecord
 record_of code = record { handle = handle_of code; key = key_row_of code; template = template_of code }
 
-abbrev pub key_of : KeyRecord → Found
-key_of r = Key r.key r.template
-
 -- ---- the table
 
 -- what stands where there is no key
@@ -37,8 +32,8 @@ no_record = record { handle = 0; key = 0; template = 0 }
 unfoldable pub records_of : List ℕ → ℕ → List KeyRecord
 records_of keys n = paste (replicate 256 no_record) 0 (map record_of keys) n
 
--- the key of the first of n numbers whose handle is in row x
-unfoldable pub stored_of : List ℕ → ℕ → ℕ → Found
+-- the first of n numbers whose handle is in row x, as a record
+unfoldable pub stored_of : List ℕ → ℕ → ℕ → Option KeyRecord
 stored_of keys n x =
     let i = index_by (eqb x) (take n (map handle_of keys)) in
-    cond (ltb i n) (Key (key_row_of (get_or keys i 0)) (template_of (get_or keys i 0))) Missing
+    cond (ltb i n) (Some (record_of (get_or keys i 0))) None

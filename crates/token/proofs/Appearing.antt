@@ -1,32 +1,37 @@
 -- What a step comes to that changes nothing or lets one value appear: the code's outcome and rows are those of the model.
 -- Assumes nothing.
 use Prim.Native.Nat.{ℕ, suc, ◌+◌, ◌≤◌, ◌<◌}
-use mathlib.Core.Path.{◌≡◌, refl, sym, ap, ap₂, ◌∙◌, subst}
+use mathlib.Core.Path.{◌≡◌, refl, sym, ap, ap₂, ◌∙◌}
 use mathlib.Core.Bool.{Bool, true, false, cond, true≢false}
 use mathlib.Core.List.{List, [], ◌∷◌, ◌++◌, append-nil}
 use native.Mathlib.Omega.{arith}
 use native.Mathlib.Numerals.{add-one}
-use borrow.Author.Tests.{ltb-true}
+use native.Mathlib.Decide.{dec_lt}
+use borrow.Author.Tests.{lt-ltb, le-ltb, ltb-true}
 use lib.Dec.{ltb}
-use lib.ListN.{length, length-append, get_or-eq_default}
-use Rattle.model.specs.Step.{ops, op_of}
-use Rattle.model.specs.declared.Op.TheVariants.{Unknown}
-use Rattle.model.specs.declared.Step.{Step}
-use Rattle.model.specs.Value.{Value, const, fresh, enc, dec, div, same, decrypt, row_of, present, value_at}
-use Rattle.model.specs.Token.{State, Room, at_most, gave, ended, stopped, full, with_row, with_atom, appear, new_atom, perform}
-use Rattle.model.specs.Tables.{PartsBelow}
-use Rattle.values.specs.Holds.{answer_in, rows_in, Appeared}
-use Rattle.values.specs.declared.Interned.{Interned}
-use Rattle.values.specs.declared.Interned.TheVariants.{Found, Added, NoRoom}
+use lib.ListN.{length, length-append}
+use Rattle.model.specs.declared.Full.TheVariants.{Rows}
+use Rattle.model.specs.declared.Operation.{Operation}
+use Rattle.model.specs.declared.Operation.TheVariants.{Encrypt, Decrypt, Derive}
+use Rattle.model.specs.Value.{Value, const, fresh, enc, dec, div, same, decrypt, compute, operands, row_of, present, value_at}
+use Rattle.model.specs.Token.{State, Room, at_most, gave, ended, stopped, full, with_row, with_atom, appear, new_atom}
+use Rattle.std.specs.Prelude.{Option, Some, None, Result}
+use Rattle.std.specs.Option.{ok_or}
+use Rattle.model.specs.Tables.{PartsBelow, Rows as RowsOf}
+use Rattle.values.specs.Filled.{Pushed, NotPushed}
+use Rattle.values.specs.declared.Filled.{Filled}
+use Rattle.values.specs.Holds.{answer_in, rows_in, Appeared, AppearedIn}
+use Rattle.values.specs.Interned.{Interned, Found, Added, NoRoom, interned_told, count_after}
 use Rattle.values.proofs.Present.{below_means_present, row_added}
 use Rattle.values.proofs.Rows.{row_at, present_at, parts_at}
-use Rattle.token.specs.Carried.{room_of, counts_of, FewAtoms, Carries, Extends, Performs}
+use Rattle.token.specs.Carried.{room_of, counts_of, FewAtoms, OperandsBelow, Carries, Extends, Performs}
 use Rattle.token.specs.Numbers.{one_row, one_atom, took_of, atom_of, MakesAtom}
 use Rattle.token.specs.declared.Counts.{Counts}
-use Rattle.token.specs.declared.Outcome.{Outcome}
-use Rattle.token.specs.declared.Outcome.TheVariants.{Gave, Ended, Stopped, Full}
+use Rattle.token.specs.declared.Halt.{Halt}
+use Rattle.token.specs.declared.Halt.TheVariants as halt
+use Rattle.token.specs.Outcome.{Outcome, Gave, Ended, Stopped, Full, outcome_told}
 use Rattle.token.proofs.Growing.{same_rows, carries_in, carries_atom, carries_row}
-use Rattle.token.proofs.Undoing.{extends_refl, extends_trans}
+use Rattle.token.proofs.Undoing.{extends_same, extends_refl, extends_trans}
 
 -- ---- steps that change nothing
 
@@ -44,10 +49,6 @@ module _ {σ : State} {t ks gs : List ℕ} {c : Counts} (C : Carries σ t ks gs)
 
   pub stops_as_it_is : Performs σ (stopped σ) (Stopped c) t ks gs
   stops_as_it_is = record { answer = ap Stopped count; has_row = tt; atoms_rowed = few; carries = C; extends = extends_refl σ }
-
-  pub unknown_op_stops : (ρ : Room) (s : Step) (v w : Value) → 7 ≤ s.op → Performs σ (perform ρ (op_of s) s v w σ) (Stopped c) t ks gs
-  unknown_op_stops ρ s v w h =
-      subst (λ o. Performs σ (perform ρ o s v w σ) (Stopped c) t ks gs) (sym (get_or-eq_default (ops s.t) Unknown h)) stops_as_it_is
 
   pub full_as_it_is : (n : ℕ) → Performs σ (full n σ) (Full n c) t ks gs
   full_as_it_is n = record { answer = ap (Full n) count; has_row = tt; atoms_rowed = tt; carries = C; extends = extends_refl σ }
@@ -138,44 +139,69 @@ decrypted_anew vs (enc w l) k p new n e = go (same l k) new e
     go true new e = true≢false (sym (below_means_present w vs p.0) ∙ new)
     go false new e = let z : ◌≡◌ {A = ℕ} 0 1 = cc in omega arith
 
-module _ {σ : State} {t ks gs u : List ℕ} {c : Counts} {a : Interned} {r : Outcome} (C : Carries σ t ks gs) (few : FewAtoms σ)
-    (count : c ≡ counts_of σ) (taken : r ≡ took_of c a) where
-  pub encrypts : {v w : Value} → Appeared (enc v w) σ.world.rows a t u → Performs σ (appear (room_of t ks) (enc v w) σ) r u ks gs
-  encrypts A =
-      rw taken
-      (appears (room_of t ks) refl C count A (λ new n h e. let z : ◌≡◌ {A = ℕ} 0 1 = cc in omega arith) (λ there. few) (omega arith))
+-- no operation gives an atom that is yet to be made
+computed_anew : {vs : List Value} → RowsOf vs → (o : Operation) (x y : ℕ) → OperandsBelow o x y (length vs)
+    → present (compute o (operands o (value_at vs x) (value_at vs y))) vs ≡ false
+    → (n : ℕ) → fresh n ≡ compute o (operands o (value_at vs x) (value_at vs y)) → ⊥
+computed_anew R Encrypt x y h new n e = let z : ◌≡◌ {A = ℕ} 0 1 = cc in omega arith
+computed_anew {vs} R Decrypt x y h new n e = decrypted_anew vs (value_at vs x) (value_at vs y) (parts_at R x h.0) new n e
+computed_anew R (Derive l) x y h new n e = let z : ◌≡◌ {A = ℕ} 0 1 = cc in omega arith
 
-  pub derives : {l : ℕ} {w : Value} → Appeared (div l w) σ.world.rows a t u → Performs σ (appear (room_of t ks) (div l w) σ) r u ks gs
-  derives A =
-      rw taken
-      (appears (room_of t ks) refl C count A (λ new n h e. let z : ◌≡◌ {A = ℕ} 0 1 = cc in omega arith) (λ there. few) (omega arith))
+-- ---- what the code tells of a row that a value got, or did not get
 
-  pub decrypts : (x : ℕ) (w : Value) → x < c.rows → Appeared (decrypt (value_at σ.world.rows x) w) σ.world.rows a t u
-      → Performs σ (appear (room_of t ks) (decrypt (value_at σ.world.rows x) w) σ) r u ks gs
-  decrypts x w h A =
-      let within : x < length σ.world.rows = omega (arith, same_rows count) in
-      rw taken
-      (appears (room_of t ks) refl C count A
-      (λ new n l e. decrypted_anew σ.world.rows (value_at σ.world.rows x) w (parts_at C.rows_held.rows x within) new n e)
-      (λ there. few)
-      (omega arith))
+abbrev with_rows : ℕ → Counts → Counts
+with_rows n c = record { rows = n; keys = c.keys; atoms = c.atoms; guards = c.guards }
+
+abbrev rowed : Option ℕ → Result ℕ Halt
+rowed r = ok_or r (halt.Full Rows)
+
+rows_grown : (len : ℕ) (v : Value) (vs : List Value) → length (rows_in len v vs) ≡ count_after (answer_in len v vs) (length vs)
+unfolding answer_in rows_in
+rows_grown len v vs = go (present v vs) (ltb (length vs) len)
+  where
+    go : (b c : Bool) → length (cond b vs (cond c (vs ++ v ∷ []) vs))
+        ≡ count_after (cond b (Found (row_of v vs)) (cond c (Added (length vs)) NoRoom)) (length vs)
+    go true c = refl
+    go false true = length-append vs (v ∷ [])
+    go false false = refl
+
+row_taken : (c : Counts) (r : Option ℕ) (n : ℕ) → n ≡ count_after (interned_told r c.rows n) c.rows
+    → outcome_told (rowed r) (with_rows n c) ≡ took_of c (interned_told r c.rows n)
+row_taken c None n e = ap (λ m. Full 32 (with_rows m c)) e
+row_taken c (Some i) n e = go (ltb c.rows n) e
+  where
+    go : (b : Bool) → n ≡ count_after (cond b (Added i) (Found i)) c.rows → Gave (with_rows n c) i ≡ took_of c (cond b (Added i) (Found i))
+    go true e = ap (λ m. Gave (with_rows m c) i) e
+    go false e = ap (λ m. Gave (with_rows m c) i) e
+
+-- a lent table is what the call left that it was lent to
+pub appeared_there : {v : Value} {vs : List Value} {a : Interned} {t u w : List ℕ} → Appeared v vs a t u → w ≡ u → Appeared v vs a t w
+appeared_there A e = rw e A
+
+pub row_told : (c : Counts) {v : Value} {vs : List Value} {r : Option ℕ} {f g : Filled} → c.rows ≡ f.len → f.len ≡ length vs
+    → AppearedIn v vs r f g
+    → outcome_told (rowed r) (with_rows g.len c) ≡ took_of c (interned_told r f.len g.len)
+row_told c {v} {vs} {r} {f} {g} rows count A =
+    let counted : g.len ≡ count_after (interned_told r f.len g.len) f.len =
+    A.counted ∙ rows_grown (length f.table.now) v vs ∙ ap₂ count_after (sym A.appeared.answer) (sym count)
+    in
+    rw (← rows) (row_taken c r g.len (rw rows counted))
+
+pub computes : {σ : State} {t ks gs u : List ℕ} {c : Counts} {a : Interned} {r : Outcome} → Carries σ t ks gs → FewAtoms σ → c ≡ counts_of σ
+    → (o : Operation) (x y : ℕ) → OperandsBelow o x y c.rows → r ≡ took_of c a
+    → Appeared (compute o (operands o (value_at σ.world.rows x) (value_at σ.world.rows y))) σ.world.rows a t u
+    → Performs σ (appear (room_of t ks) (compute o (operands o (value_at σ.world.rows x) (value_at σ.world.rows y))) σ) r u ks gs
+computes {σ} {t} {ks} C few count o x y below taken A =
+    rw taken
+    (appears (room_of t ks) refl C count A
+    (λ new n h. computed_anew C.rows_held.rows o x y (rw (same_rows count) at below) new n)
+    (λ there. few)
+    (omega arith))
 
 -- ---- a new atom
 
 abbrev counted : State → State
 counted σ = record { world = with_atom σ.world; token = σ.token }
-
-extends_atom : (σ : State) → Extends σ (counted σ)
-extends_atom σ =
-    let E = extends_refl σ in
-    record {
-      new_rows = E.new_rows;
-      new_keys = E.new_keys;
-      new_guarded = E.new_guarded;
-      rows_grown = E.rows_grown;
-      keys_grown = E.keys_grown;
-      guarded_grown = E.guarded_grown;
-    }
 
 counts_atom : (σ : State) → one_atom (counts_of σ) ≡ counts_of (counted σ)
 counts_atom σ = λ i. record {
@@ -218,8 +244,23 @@ module _ {σ : State} {t ks gs u : List ℕ} {r : Outcome} (C : Carries σ t ks 
         has_row = P.has_row;
         atoms_rowed = P.atoms_rowed;
         carries = P.carries;
-        extends = extends_trans (extends_atom σ) P.extends;
+        extends = extends_trans (extends_same σ (counted σ) refl refl refl) P.extends;
       }
+
+-- what the code tells of the atom's row
+pub atom_told : (c : Counts) {r : Option ℕ} {f g : Filled} {x : ℕ} → c.rows ≡ f.len → (f.len < length f.table.now → Pushed f x r g)
+    → (length f.table.now ≤ f.len → NotPushed f r g)
+    → outcome_told (rowed r) (with_rows g.len (one_atom c)) ≡ atom_of (length f.table.now) c
+unfolding atom_of
+atom_told c {r} {f} {g} rows with_room without_room = go (dec_lt f.len (length f.table.now))
+  where
+    go : Dec (f.len < length f.table.now) → outcome_told (rowed r) (with_rows g.len (one_atom c))
+        ≡ cond (ltb c.rows (length f.table.now)) (Gave (one_row (one_atom c)) c.rows) (Full 32 (one_atom c))
+    go (yes h) = let P = with_room h in rw (rows, lt-ltb f.len (length f.table.now) h, P.answer, P.used) refl
+    go (no h) = let P = without_room (omega arith) in rw (rows, le-ltb f.len (length f.table.now) (omega arith), P.answer, P.used) refl
+
+pub made_there : {c : Counts} {r : Outcome} {t u w : List ℕ} → MakesAtom c r t u → w ≡ u → MakesAtom c r t w
+made_there M e = rw e M
 
 pub makes_atom : {σ : State} {t ks gs u : List ℕ} {r : Outcome} {c : Counts} (ρ : Room) → ρ.rows ≡ at_most (length t) → Carries σ t ks gs
     → FewAtoms σ → c ≡ counts_of σ → MakesAtom c r t u → Performs σ (new_atom ρ σ) r u ks gs
@@ -234,11 +275,11 @@ pub record AtomGiven (len : ℕ) (c c' : Counts) (row : ℕ) : Type 0 where
   pub guards : c'.guards ≡ c.guards
   pub last : row ≡ c.rows
 
-pub atom_given : {len : ℕ} {c c' : Counts} {row : ℕ} {r : Outcome} → r ≡ Gave c' row → r ≡ atom_of len c → AtomGiven len c c' row
+pub atom_given : {len : ℕ} {c c' : Counts} {row : ℕ} → Gave c' row ≡ atom_of len c → AtomGiven len c c' row
 unfolding atom_of
-atom_given {len} {c} {c'} {row} {r} e answer = go (ltb c.rows len) refl answer
+atom_given {len} {c} {c'} {row} = go (ltb c.rows len) refl
   where
-    go : (b : Bool) → ltb c.rows len ≡ b → r ≡ cond b (Gave (one_row (one_atom c)) c.rows) (Full 32 (one_atom c))
+    go : (b : Bool) → ltb c.rows len ≡ b → Gave c' row ≡ cond b (Gave (one_row (one_atom c)) c.rows) (Full 32 (one_atom c))
         → AtomGiven len c c' row
     go true f answer =
         let counts : c' ≡ one_row (one_atom c) = cc in

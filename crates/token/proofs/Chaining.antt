@@ -5,14 +5,16 @@ use mathlib.Core.Path.{◌≡◌, refl, ◌∙◌}
 use mathlib.Core.List.{List}
 use native.Mathlib.Omega.{arith}
 use lib.ListN.{length, length-append}
+use Rattle.std.specs.Prelude.{Err}
 use Rattle.model.specs.Value.{Value, row_of}
 use Rattle.model.specs.Token.{State, Out, gave, ended, stopped, full, and_then}
 use Rattle.values.proofs.Present.{present_means_below, row_kept, present_kept}
 use Rattle.values.proofs.Appeared.{HasRow as InRow}
 use Rattle.token.specs.Carried.{counts_of, FewAtoms, Carries, Ready, Extends, outcome_of, Performs}
 use Rattle.token.specs.declared.Counts.{Counts}
-use Rattle.token.specs.declared.Outcome.{Outcome}
-use Rattle.token.specs.declared.Outcome.TheVariants.{Gave}
+use Rattle.token.specs.declared.Halt.{Halt}
+use Rattle.token.specs.declared.Halt.TheVariants as halt
+use Rattle.token.specs.Outcome.{Outcome, Gave, outcome_told}
 use Rattle.token.proofs.Undoing.{extends_trans}
 
 -- the numbers that the next step asks for
@@ -43,6 +45,11 @@ row_later {σ} {v = v} R E =
 -- an outcome without a value to go on with
 abbrev pub Stops : Outcome → Type 0
 Stops r = (c : Counts) (i : ℕ) → r ≡ Gave c i → ⊥
+
+pub halts : (h : Halt) (c : Counts) → Stops (outcome_told (Err h) c)
+halts (halt.Ended x) c d i e = let z : ◌≡◌ {A = ℕ} 0 1 = cc in omega arith
+halts halt.Stopped c d i e = let z : ◌≡◌ {A = ℕ} 0 1 = cc in omega arith
+halts (halt.Full f) c d i e = let z : ◌≡◌ {A = ℕ} 0 1 = cc in omega arith
 
 pub stops : {σ : State} {o : Out} {r : Outcome} {t ks gs : List ℕ} (next : Value → State → Out) → Stops r → Performs σ o r t ks gs
     → Performs σ (and_then o next) r t ks gs

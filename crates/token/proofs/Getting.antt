@@ -1,33 +1,32 @@
 -- What a get comes to: the search over the stored keys' numbers finds the model's key, and its number tells its template and its row.
 -- Assumes nothing.
-use Prim.Native.Nat.{ℕ, zero, suc, ◌%◌, ◌<◌}
-use mathlib.Core.Path.{◌≡◌, refl, sym, ap, ◌∙◌, subst}
+use Prim.Native.Nat.{ℕ, ◌%◌, ◌<◌}
+use mathlib.Core.Path.{◌≡◌, refl, sym, ap, ◌∙◌}
 use mathlib.Core.Bool.{Bool, true, false, cond, ◌&&◌}
-use mathlib.Core.List.{List, [], ◌∷◌, map, map-map}
+use mathlib.Core.List.{List, map, map-map}
 use native.Mathlib.Omega.{arith}
 use borrow.Author.Tests.{eq-eqb, ne_eqb, ltb-true}
 use lib.Dec.{eqb, ltb}
 use lib.ListN.{length, get_or, take}
+use Rattle.std.proofs.lemmas.List.{get_or-map, take-map}
 use lib.Seq.{get_or-take}
+use Rattle.std.specs.Prelude.{Some, None}
 use Rattle.model.specs.Basics.{index_by}
-use Rattle.model.specs.Step.{ops, op_of}
-use Rattle.model.specs.declared.Op.TheVariants.{Unknown}
 use Rattle.model.specs.Policy.{meets}
 use Rattle.model.specs.Value.{Value, same, row_of, present, value_at}
-use Rattle.model.specs.Token.{State, Room, stopped, appear, place_of, key_at, get, perform}
+use Rattle.model.specs.Token.{State, Room, stopped, appear, place_of, key_at, get}
 use Rattle.model.specs.Tables.{key_code, Rows}
 use Rattle.model.specs.declared.Step.{Step}
 use Rattle.types.proofs.Table.{same_below}
 use Rattle.values.proofs.Index.{index_of_map}
 use Rattle.values.proofs.Present.{present_means_below}
 use Rattle.values.proofs.Rows.{row_decides}
-use Rattle.keys.specs.Stored.{handle_of, key_row_of, template_of, stored_of}
-use Rattle.keys.specs.declared.Found.TheVariants.{Key, Missing}
+use Rattle.keys.specs.Stored.{handle_of, key_row_of, template_of, record_of, stored_of}
 use Rattle.token.specs.Carried.{counts_of, FewAtoms, Carries, Performs}
 use Rattle.token.specs.Numbers.{key_number, got_of, get_of}
 use Rattle.token.specs.declared.Counts.{Counts}
-use Rattle.token.specs.declared.Outcome.TheVariants.{Gave, Stopped}
-use Rattle.token.proofs.Growing.{no_key, same_rows, get_d_map_within}
+use Rattle.token.specs.Outcome.{Gave, Stopped}
+use Rattle.token.proofs.Growing.{no_key, same_rows}
 use Rattle.token.proofs.Undoing.{extends_refl, first_keys}
 use Rattle.token.proofs.Appearing.{stops_as_it_is, appears_again}
 
@@ -54,11 +53,6 @@ same_by_row : {vs : List Value} → Rows vs → (x : ℕ) → x < length vs → 
 same_by_row {vs} R x h w there =
     row_decides R x h w there (eqb x (row_of w vs)) (λ e. eq-eqb _ _ (sym e)) (λ d. ne_eqb _ _ (λ e. d (sym e)))
 
-take_of_map : {A B : Type 0} (f : A → B) (n : ℕ) (l : List A) → take n (map f l) ≡ map f (take n l)
-take_of_map f zero l = refl
-take_of_map f (suc n) [] = refl
-take_of_map f (suc n) (x ∷ xs) = ap (λ l. f x ∷ l) (take_of_map f n xs)
-
 module _ {σ : State} {t ks gs : List ℕ} (C : Carries σ t ks gs) where
   -- ---- the number of each stored key
 
@@ -70,7 +64,7 @@ module _ {σ : State} {t ks gs : List ℕ} (C : Carries σ t ks gs) where
     number_at =
         sym (get_or-take (length σ.token.stored) ks i 0 h)
         ∙ ap (λ l. get_or l i 0) (first_keys C)
-        ∙ get_d_map_within (key_code σ.world.rows) no_key 0 σ.token.stored i h
+        ∙ get_or-map (key_code σ.world.rows) σ.token.stored i no_key 0 h
 
     handle_at : handle_of (key_code σ.world.rows (key_at σ.token.stored i)) ≡ row_of (key_at σ.token.stored i).handle σ.world.rows
     unfolding key_code
@@ -97,7 +91,7 @@ module _ {σ : State} {t ks gs : List ℕ} (C : Carries σ t ks gs) where
       → index_by (eqb x) (take (length σ.token.stored) (map handle_of ks)) ≡ place_of (value_at σ.world.rows x) σ.token.stored
   place_found x b =
       ap (index_by (eqb x))
-      (take_of_map handle_of (length σ.token.stored) ks
+      (take-map handle_of (length σ.token.stored) ks
       ∙ ap (map handle_of) (first_keys C)
       ∙ map-map handle_of (key_code σ.world.rows) σ.token.stored)
       ∙ index_of_map no_key (λ k. handle_of (key_code σ.world.rows k)) (eqb x) (λ k. same k.handle (value_at σ.world.rows x)) σ.token.stored
@@ -109,7 +103,7 @@ module _ {σ : State} {t ks gs : List ℕ} (C : Carries σ t ks gs) where
     -- what is got from place p, which there is or not
     got_from : (p : ℕ) (f : Bool) → ltb p (length σ.token.stored) ≡ f → Performs σ
         (cond (f && meets s (key_at σ.token.stored p).template) (appear ρ (key_at σ.token.stored p).key σ) (stopped σ))
-        (got_of (counts_of σ) s (cond f (Key (key_row_of (get_or ks p 0)) (template_of (get_or ks p 0))) Missing))
+        (got_of (counts_of σ) s (cond f (Some (record_of (get_or ks p 0))) None))
         t ks gs
     got_from p false e = stops_as_it_is C few refl
     got_from p true e = rw (meets_at p h s, key_is_at p h) (go (meets s (key_at σ.token.stored p).template))
@@ -128,11 +122,9 @@ module _ {σ : State} {t ks gs : List ℕ} (C : Carries σ t ks gs) where
         go false = stops_as_it_is C few refl
 
     got : (x : ℕ) → x < length σ.world.rows → Performs σ (get ρ s (value_at σ.world.rows x) σ) (get_of ks (counts_of σ) s x) t ks gs
-    unfolding get get_of stored_of
+    unfolding get stored_of
     got x b = rw (place_found x b) (got_from (place_of (value_at σ.world.rows x) σ.token.stored) _ refl)
 
-  pub gets : {c : Counts} → FewAtoms σ → c ≡ counts_of σ → (ρ : Room) (s : Step) (x : ℕ) (w : Value) → x < c.rows → s.op ≡ 1
-      → Performs σ (perform ρ (op_of s) s (value_at σ.world.rows x) w σ) (get_of ks c s x) t ks gs
-  gets {c} few count ρ s x w h op =
-      subst (λ n. Performs σ (perform ρ (get_or (ops s.t) n Unknown) s (value_at σ.world.rows x) w σ) (get_of ks c s x) t ks gs) (sym op)
-      (rw count (got few ρ s x (omega (arith, same_rows count))))
+  pub gets : {c : Counts} → FewAtoms σ → c ≡ counts_of σ → (ρ : Room) (s : Step) (x : ℕ) → x < c.rows
+      → Performs σ (get ρ s (value_at σ.world.rows x) σ) (get_of ks c s x) t ks gs
+  gets few count ρ s x h = rw count (got few ρ s x (omega (arith, same_rows count)))

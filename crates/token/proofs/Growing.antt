@@ -1,6 +1,6 @@
 -- How the tables carry a state on as it grows: when a row is added, an atom counted, a key kept, a value guarded.
 -- Assumes nothing.
-use Prim.Native.Nat.{ℕ, zero, suc, ◌+◌, ◌≤◌, ◌<◌}
+use Prim.Native.Nat.{ℕ, suc, ◌+◌, ◌≤◌, ◌<◌}
 use mathlib.Core.Path.{◌≡◌, refl, sym, ap, ◌∙◌}
 use mathlib.Core.Bool.{Bool, true, false}
 use mathlib.Core.List.{List, [], ◌∷◌, ◌++◌, map, map-append}
@@ -8,6 +8,7 @@ use native.Mathlib.Omega.{arith}
 use native.Mathlib.Decide.{dec_lt}
 use borrow.Author.Tests.{le-ltb, ltb-false}
 use lib.ListN.{length, get_or, take, set, length-append, length-map, length-set, get_or-append}
+use Rattle.std.proofs.lemmas.List.{get_or-map}
 use lib.Seq.{get_or-take, get_or_at, get_or-set_same, get_or-set_other, take-suc-set, length-take-le, ext_get_or}
 use Rattle.model.specs.Basics.{index_by}
 use Rattle.model.specs.Value.{Value, const, fresh, same, row_of, present, value_at}
@@ -40,11 +41,6 @@ each_with_one_more P d xs x all one i h = go (dec_lt i (length xs))
     go : Dec (i < length xs) → P (get_or (xs ++ x ∷ []) i d)
     go (yes l) = rw (get_or-append xs (x ∷ []) d i l) (all i l)
     go (no l) = rw (get_or_at xs x [] d i (omega (arith, length-append xs (x ∷ [])))) one
-
-pub get_d_map_within : {A B : Type 0} (f : A → B) (d : A) (e : B) (l : List A) (i : ℕ) → i < length l → get_or (map f l) i e ≡ f (get_or l i d)
-get_d_map_within f d e [] i h = absurd (omega arith)
-get_d_map_within f d e (x ∷ xs) zero h = refl
-get_d_map_within f d e (x ∷ xs) (suc i) h = get_d_map_within f d e xs i (omega arith)
 
 -- ---- a value that has no row still has none when another one gets a row
 
@@ -91,10 +87,11 @@ guards_by_each vs us gs fit each = ext_get_or (const 0) (map (value_at vs) (take
     long : length (map (value_at vs) (take (length us) gs)) ≡ length us
     long = length-map (take (length us) gs) (value_at vs) ∙ count
 
-    at : (i : ℕ) → i < length (map (value_at vs) (take (length us) gs)) → value_at (map (value_at vs) (take (length us) gs)) i ≡ value_at us i
+    at : (i : ℕ) → i < length (map (value_at vs) (take (length us) gs))
+        → value_at (map (value_at vs) (take (length us) gs)) i ≡ value_at us i
     at i h =
         let l : i < length us = omega (arith, long) in
-        get_d_map_within (value_at vs) 0 (const 0) (take (length us) gs) i (omega (arith, count))
+        get_or-map (value_at vs) (take (length us) gs) i 0 (const 0) (omega (arith, count))
         ∙ ap (value_at vs) (get_or-take (length us) gs i 0 l)
         ∙ each i l
 
@@ -106,7 +103,7 @@ module _ {σ : State} {t ks gs : List ℕ} (C : Carries σ t ks gs) where
   guard_at i h =
       let n = length σ.world.guarded in
       ap (value_at σ.world.rows) (sym (get_or-take n gs i 0 h))
-      ∙ sym (get_d_map_within (value_at σ.world.rows) 0 (const 0) (take n gs) i (omega (arith, length-take-le n gs guards_reach)))
+      ∙ sym (get_or-map (value_at σ.world.rows) (take n gs) i 0 (const 0) (omega (arith, length-take-le n gs guards_reach)))
       ∙ ap (λ l. value_at l i) C.guards_are
 
   -- the value in row x has that row

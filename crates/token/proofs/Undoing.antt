@@ -1,7 +1,7 @@
 -- Later states of the same line, and the way back from one: what the tables carry when all that was added is made unused again.
 -- Assumes nothing.
 use Prim.Native.Nat.{ℕ, ◌≤◌, ◌<◌}
-use mathlib.Core.Path.{◌≡◌, sym, ap, ap₂, ◌∙◌}
+use mathlib.Core.Path.{◌≡◌, refl, sym, ap, ap₂, ◌∙◌}
 use mathlib.Core.List.{List, [], ◌++◌, map, map-append, append-nil, append_assoc}
 use native.Mathlib.Omega.{arith}
 use lib.ListN.{length, get_or, take, length-append, length-map, get_or-append}
@@ -16,15 +16,20 @@ use Rattle.values.proofs.Padded.{take_padded}
 use Rattle.token.specs.Carried.{Tidy, Carries, Extends}
 use Rattle.token.proofs.Growing.{codes_kept, guards_by_each, guard_at}
 
-pub extends_refl : (σ : State) → Extends σ σ
-extends_refl σ = record {
+-- a state with the same rows, keys and guarded values
+pub extends_same : (σ σ' : State) → σ'.world.rows ≡ σ.world.rows → σ'.token.stored ≡ σ.token.stored → σ'.world.guarded ≡ σ.world.guarded
+    → Extends σ σ'
+extends_same σ σ' rows keys guarded = record {
   new_rows = [];
   new_keys = [];
   new_guarded = [];
-  rows_grown = sym (append-nil σ.world.rows);
-  keys_grown = sym (append-nil σ.token.stored);
-  guarded_grown = sym (append-nil σ.world.guarded);
+  rows_grown = rows ∙ sym (append-nil σ.world.rows);
+  keys_grown = keys ∙ sym (append-nil σ.token.stored);
+  guarded_grown = guarded ∙ sym (append-nil σ.world.guarded);
 }
+
+pub extends_refl : (σ : State) → Extends σ σ
+extends_refl σ = extends_same σ σ refl refl refl
 
 pub extends_trans : {σ σ' σ'' : State} → Extends σ σ' → Extends σ' σ'' → Extends σ σ''
 extends_trans {σ} E F = record {
@@ -106,3 +111,7 @@ module _ {σ σ' : State} {t ks gs : List ℕ} (T : Tidy σ) (C : Carries σ' t 
     guards_have_rows = guard_has_row;
     guards_fit = omega (arith, C.guards_fit);
   }
+
+-- a lent table is what the call left that it was lent to
+pub carried_there : {σ : State} {t t' ks ks' gs : List ℕ} → Carries σ t ks gs → t' ≡ t → ks' ≡ ks → Carries σ t' ks' gs
+carried_there C e f = rw (e, f) C

@@ -1,6 +1,8 @@
 -- When the lent tables and the counts carry a state of the model, and what a function that takes the state on answers and leaves there.
-use Rattle.std.specs.Prelude.{ℕ, ◌≤◌, ◌<◌, ◌≡◌, true, false, List, ◌++◌, map, length, take, get_or}
+use Rattle.std.specs.Prelude.{ℕ, ◌≤◌, ◌<◌, ◌≡◌, true, false, List, Result, ◌++◌, map, length, take, get_or}
 use Rattle.model.specs.Step.{fields_of, op_of}
+use Rattle.model.specs.declared.Operation.{Operation}
+use Rattle.model.specs.declared.Op.TheVariants.{Compute}
 use Rattle.model.specs.declared.Use.{Use}
 use Rattle.model.specs.declared.Use.TheVariants.{Nothing, Operand, Attributes, Label}
 use Rattle.model.specs.Value.{Value, fresh, row_of, present, value_at}
@@ -9,8 +11,10 @@ use Rattle.model.specs.Tables.{padded, key_code}
 use Rattle.values.specs.Holds.{Holds}
 use Rattle.model.specs.declared.Step.{Step}
 use Rattle.token.specs.declared.Counts.{Counts}
-use Rattle.token.specs.declared.Outcome.{Outcome}
-use Rattle.token.specs.declared.Outcome.TheVariants as code
+use Rattle.token.specs.declared.Halt.{Halt}
+use Rattle.token.specs.declared.Token.{Token}
+use Rattle.token.specs.Outcome.{Outcome, outcome_told}
+use Rattle.token.specs.Outcome as code
 
 -- the room that tables give
 abbrev pub room_of : List ℕ → List ℕ → Room
@@ -64,6 +68,10 @@ UsedBelow Operand x n = x < n
 UsedBelow Attributes x n = Unit {0}
 UsedBelow Label x n = Unit {0}
 
+-- the rows x and y of an operation's operands
+abbrev pub OperandsBelow : Operation → ℕ → ℕ → ℕ → Type 0
+OperandsBelow o x y n = UsedBelow (fields_of (Compute o)).a x n × UsedBelow (fields_of (Compute o)).b y n
+
 pub record Named (s : Step) (x y n : ℕ) : Type 0 where
   pub a_named : UsedBelow (fields_of (op_of s)).a x n
   pub b_named : UsedBelow (fields_of (op_of s)).b y n
@@ -111,3 +119,23 @@ pub record Performs (σ : State) (o : Out) (r : Outcome) (rows keys guards : Lis
   pub atoms_rowed : AtomsRowed o
   pub carries : Carries (state_of o) rows keys guards
   pub extends : Extends σ (state_of o)
+
+-- ---- the same of the token as the code has it
+
+abbrev pub room_in : Token → Room
+room_in t = room_of t.rows.now t.keys.now
+
+abbrev pub CarriedIn : State → Token → Type 0
+CarriedIn σ t = Carries σ t.rows.now t.keys.now t.guards.now
+
+-- between two steps: the token is that of the state
+pub record Stands (σ : State) (t : Token) : Type 0 where
+  pub carries : CarriedIn σ t
+  pub few_atoms : FewAtoms σ
+  pub counts_are : t.used ≡ counts_of σ
+
+abbrev pub ReadyIn : Token → Type 0
+ReadyIn t = Ready t.used t.rows.now t.keys.now t.guards.now
+
+abbrev pub PerformsIn : State → Out → Result ℕ Halt → Token → Type 0
+PerformsIn σ o r t = Performs σ o (outcome_told r t.used) t.rows.now t.keys.now t.guards.now

@@ -1,17 +1,15 @@
 -- What the inner functions do, as the code does it: over counts and the tables' numbers alone, whatever they stand for.
-use Rattle.std.specs.Prelude.{ℕ, ◌+◌, ◌*◌, ◌≤◌, ◌<◌, ◌≡◌, Bool, true, false, cond, List, ltb, length, set}
+use Rattle.std.specs.Prelude.{ℕ, ◌+◌, ◌*◌, ◌≤◌, ◌<◌, ◌≡◌, Bool, true, false, cond, List, Option, Some, None, ltb, length, set}
 use Rattle.model.specs.Policy.{meets}
 use Rattle.model.specs.Value.{Value, fresh, present}
 use Rattle.model.specs.declared.Step.{Step}
 use Rattle.values.specs.Holds.{Holds, rows_in}
-use Rattle.values.specs.declared.Interned.{Interned}
-use Rattle.values.specs.declared.Interned.TheVariants.{Found, Added, NoRoom}
+use Rattle.values.specs.Interned.{Interned, Found, Added, NoRoom}
 use Rattle.keys.specs.Stored.{stored_of}
-use Rattle.keys.specs.declared.Found.{Found as FoundKey}
-use Rattle.keys.specs.declared.Found.TheVariants.{Key, Missing}
+use Rattle.keys.specs.declared.KeyRecord.{KeyRecord}
 use Rattle.token.specs.declared.Counts.{Counts}
-use Rattle.token.specs.declared.Outcome.{Outcome}
-use Rattle.token.specs.declared.Outcome.TheVariants.{Gave, Stopped, Full}
+use Rattle.token.specs.declared.Token.{Token}
+use Rattle.token.specs.Outcome.{Outcome, Gave, Stopped, Full}
 
 -- ---- counts with one more
 
@@ -28,10 +26,15 @@ one_key false c = record { rows = c.rows; keys = c.keys + 1; atoms = c.atoms; gu
 
 -- ---- appearing
 
+-- what becomes of a value that appeared: ending 32 where there was no room for it
 abbrev pub took_of : Counts → Interned → Outcome
 took_of c (Found i) = Gave c i
 took_of c (Added i) = Gave (one_row c) i
 took_of c NoRoom = Full 32 c
+
+-- what is seen to before an atom is made
+abbrev pub AtomsFit : Token → Type 0
+AtomsFit t = (t.used.rows ≤ length t.rows.now) × (t.used.rows ≤ 4096) × (t.used.atoms ≤ t.used.rows)
 
 -- a new atom, where there is room for len rows
 unfoldable pub atom_of : ℕ → Counts → Outcome
@@ -65,9 +68,9 @@ pub record Keeps (c : Counts) (h k t : ℕ) (guarded : Bool) (r : Outcome) (keys
 -- ---- getting
 
 -- a stored key that is found is got where its template has what the step asks for
-abbrev pub got_of : Counts → Step → FoundKey → Outcome
-got_of c s (Key row m) = cond (meets s m) (Gave c row) (Stopped c)
-got_of c s Missing = Stopped c
+abbrev pub got_of : Counts → Step → Option KeyRecord → Outcome
+got_of c s (Some r) = cond (meets s r.template) (Gave c r.key) (Stopped c)
+got_of c s None = Stopped c
 
-unfoldable pub get_of : List ℕ → Counts → Step → ℕ → Outcome
+abbrev pub get_of : List ℕ → Counts → Step → ℕ → Outcome
 get_of keys c s x = got_of c s (stored_of keys c.keys x)

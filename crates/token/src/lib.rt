@@ -1,21 +1,34 @@
-// The token over the lent tables: what one step does, in row numbers and counts.
+// The token over the lent tables: what one step does, in row numbers.
 // Inner functions promise counts and numbers where they can. What generate, store and the public functions promise is said of
 // every state that the tables may carry.
 #![tactic(auto)]
 
 ghost use Rattle.std.specs.Prelude.{◌≡◌, List, ℕ, ◌≤◌, ◌<◌, length};
 ghost use Rattle.model.specs.Step.{op_of};
-ghost use Rattle.model.specs.Value.{value_at};
-ghost use Rattle.model.specs.Token.{State, generate, store, perform};
-ghost use Rattle.token.specs.Carried.{room_of, counts_of, Carries, FewAtoms, Ready, Named, Performs, Extends, Tidy};
-ghost use Rattle.token.specs.Numbers.{took_of, MakesAtom, MakesHandle, key_number, Keeps, get_of};
+ghost use Rattle.model.specs.Value.{Value, value_at, compute, operands};
+ghost use Rattle.model.specs.Token.{State, appear, generate, store, perform};
+ghost use Rattle.values.specs.Holds.{Holds, AppearedIn};
+ghost use Rattle.values.specs.Filled.{SameTable};
+ghost use Rattle.token.specs.declared.Counts.{Counts};
+ghost use Rattle.token.specs.Outcome.{Gave, outcome_told, SameTables, KeysKept};
+ghost use Rattle.token.specs.Carried.{counts_of, Tidy, OperandsBelow, Named, Extends};
+ghost use Rattle.token.specs.Carried.{room_in, CarriedIn, Stands, ReadyIn, PerformsIn};
+ghost use Rattle.token.specs.Numbers.{AtomsFit, MakesAtom, MakesHandle, key_number, Keeps, get_of};
 
-use keys::Found;
-use model::Step;
-use values::Interned;
+use model::{Full, Op, Operation, Step};
+use values::Filled;
 
-// How many rows, stored keys, fresh atoms and guarded values there are.
-#[derive(Clone, Copy)]
+// The token's tables, with how much of each is used. The guards are the rows of the guarded values.
+#[derive(Drop)]
+pub struct Token<'a> {
+    pub rows: &'a mut [u64],
+    pub keys: &'a mut [u64],
+    pub guards: &'a mut [u64],
+    pub used: Counts,
+}
+
+// How many rows, stored keys, fresh atoms and guarded values there are: noted before a line, so that the line can be undone.
+#[derive(Clone, Copy, PartialEq, Eq, Debug)]
 pub struct Counts {
     pub rows: usize,
     pub keys: usize,
@@ -23,63 +36,12 @@ pub struct Counts {
     pub guards: usize,
 }
 
-// What a step or a call comes to, with the counts then: a value's row, with which the call goes on or ends; a stop; an ending.
-#[derive(Clone, Copy)]
-pub enum Outcome {
-    Gave(Counts, usize),
-    Ended(Counts, usize),
-    Stopped(Counts),
-    Full(usize, Counts),
-}
-
-// What becomes of a value that appeared: ending 32 where there was no room for it.
-pub fn took(c: Counts, r: Interned) -> Outcome
-    requires { c.rows ≤ 4096 }
-    ensures { result ≡ took_of c r }
-{
-    match r {
-        Interned::Found(i) => Outcome::Gave(c, i),
-        Interned::Added(i) => Outcome::Gave(
-            Counts {
-                rows: c.rows + 1,
-                keys: c.keys,
-                atoms: c.atoms,
-                guards: c.guards,
-            },
-            i,
-        ),
-        Interned::NoRoom => Outcome::Full(32, c),
-    }
-}
-
-// One more atom. It has no row yet, so it gets the next one; it is counted also where there is no room for its row.
-fn new_atom(rows: &mut [u64], c: Counts) -> Outcome
-    requires { (c.rows ≤ 4096) × (c.atoms ≤ c.rows) }
-    ensures { MakesAtom c result rows.old rows.new }
-{
-    let n = c.rows;
-    let k = c.atoms;
-    if n < rows.len() {
-        values::appear_new(rows, n, k);
-        return Outcome::Gave(
-            Counts {
-                rows: n + 1,
-                keys: c.keys,
-                atoms: k + 1,
-                guards: c.guards,
-            },
-            n,
-        );
-    }
-    Outcome::Full(
-        32,
-        Counts {
-            rows: n,
-            keys: c.keys,
-            atoms: k + 1,
-            guards: c.guards,
-        },
-    )
+// Why a call does not go on after a step: it ends with the value in a row, it stops, or there is no more room.
+#[derive(Clone, Copy, PartialEq, Eq, Debug)]
+pub enum Halt {
+    Ended(usize),
+    Stopped,
+    Full(Full),
 }
 
 // Sixteen bits hold a row, and eight a template; the highest one marks that the place is in use.
@@ -87,146 +49,171 @@ fn key_code(h: usize, k: usize, t: u8) -> u64
     requires { (h < 65536) × (k < 65536) }
     ensures { result ≡ key_number h k t }
 {
-    1099511627776 + 16777216 * h as u64 + 256 * k as u64 + t as u64
+    1099511627776 + 16777216 * h as u64 + 256 * k as u64 + u64::from(t)
 }
 
-// The value in row k is kept under the handle in row h, at the next place, and is guarded where that is asked for.
-fn keep(
-    keys: &mut [u64],
-    guards: &mut [u64],
-    c: Counts,
-    h: usize,
-    k: usize,
-    t: u8,
-    guarded: bool,
-) -> Outcome
-    requires { (c.keys < length keys.old) × (c.guards < length guards.old) × (h < 65536) × (k < 65536) }
-    ensures { Keeps c h k t guarded result keys.old guards.old keys.new guards.new }
+// What is computed from the values in rows x and y appears; None where there is no room for it.
+fn computed(rows: &mut Filled<'_>, operation: Operation, x: usize, y: usize) -> Option<usize>
+    requires { (rows.old.len ≤ length rows.old.table.now) × (rows.old.len ≤ 65536) × OperandsBelow operation x y rows.old.len }
+    ensures same_table { SameTable rows.old rows.new }
+    ensures appears { (vs : List Value) → Holds rows.old.table.now vs → rows.old.len ≡ length vs
+        → AppearedIn (compute operation (operands operation (value_at vs x) (value_at vs y))) vs result rows.old rows.new }
 {
-    let n = c.keys;
-    let g = c.guards;
-    keys[n] = key_code(h, k, t);
-    if guarded {
-        guards[g] = k as u64;
-        return Outcome::Gave(
-            Counts {
-                rows: c.rows,
-                keys: n + 1,
-                atoms: c.atoms,
-                guards: g + 1,
-            },
-            h,
-        );
+    match operation {
+        Operation::Encrypt => values::encrypt_rows(rows, x, y),
+        Operation::Decrypt => values::decrypt_rows(rows, x, y),
+        Operation::Derive(label) => values::derive_row(rows, label, y),
     }
-    Outcome::Gave(
-        Counts {
-            rows: c.rows,
-            keys: n + 1,
-            atoms: c.atoms,
-            guards: g,
-        },
-        h,
-    )
-}
-
-// An atom for a handle, where there is a place for the key that it is to get: ending 33 comes before ending 32.
-fn new_handle(rows: &mut [u64], places: usize, c: Counts) -> Outcome
-    requires { (c.rows ≤ 4096) × (c.atoms ≤ c.rows) }
-    ensures { MakesHandle places c result rows.old rows.new }
-{
-    if c.keys < places {
-        return new_atom(rows, c);
-    }
-    Outcome::Full(33, c)
-}
-
-// A new handle, then a new key, which is guarded under S or A.
-fn generate(rows: &mut [u64], keys: &mut [u64], guards: &mut [u64], c: Counts, t: u8) -> Outcome
-    requires { Ready c rows.old keys.old guards.old }
-    ensures { (σ : State) → Carries σ rows.old keys.old guards.old → FewAtoms σ → c ≡ counts_of σ → Performs σ (generate (room_of rows.old keys.old) t σ) result rows.new keys.new guards.new }
-{
-    let places = keys.len();
-    let first = new_handle(rows, places, c);
-    let Outcome::Gave(c1, h) = first else {
-        return first;
-    };
-    let second = new_atom(rows, c1);
-    let Outcome::Gave(c2, k) = second else {
-        return second;
-    };
-    keep(keys, guards, c2, h, k, t, (t % 2 == 1) | (t / 2 % 2 == 1))
-}
-
-// A new handle for the value in row x, which is guarded under A alone.
-fn store(
-    rows: &mut [u64],
-    keys: &mut [u64],
-    guards: &mut [u64],
-    c: Counts,
-    x: usize,
-    t: u8,
-) -> Outcome
-    requires { Ready c rows.old keys.old guards.old × (x < c.rows) }
-    ensures { (σ : State) → Carries σ rows.old keys.old guards.old → FewAtoms σ → c ≡ counts_of σ → Performs σ (store (room_of rows.old keys.old) (value_at σ.world.rows x) t σ) result rows.new keys.new guards.new }
-{
-    let places = keys.len();
-    let first = new_handle(rows, places, c);
-    let Outcome::Gave(c1, h) = first else {
-        return first;
-    };
-    keep(keys, guards, c1, h, x, t, t / 2 % 2 == 1)
 }
 
 // The stored key of the handle in row x, where its template has what the step asks for. It has a row already.
-fn get(keys: &[u64], c: Counts, s: Step, x: usize) -> Outcome
-    requires { (c.keys ≤ length keys.now) × (length keys.now ≤ 256) }
-    ensures { result ≡ get_of keys.now c s x }
+fn get(keys: &Filled<'_>, s: Step, x: usize) -> Result<usize, Halt>
+    requires { (keys.now.len ≤ length keys.now.table.now) × (length keys.now.table.now ≤ 256) }
+    ensures { (c : Counts) → c.keys ≡ keys.now.len → outcome_told result c ≡ get_of keys.now.table.now c s x }
 {
-    let n = c.keys;
-    let found = keys::stored(keys, n, x);
-    match found {
-        Found::Missing => Outcome::Stopped(c),
-        Found::Key(row, m) => {
-            if types::meets_template(s, m) {
-                return Outcome::Gave(c, row);
+    match keys::stored(keys, x) {
+        Some(found) if types::meets_template(s, found.template) => Ok(found.key),
+        _ => Err(Halt::Stopped),
+    }
+}
+
+impl Token<'_> {
+    // One more atom. It has no row yet, so it gets the next one; it is counted also where there is no room for its row.
+    fn new_atom(&mut self) -> Result<usize, Halt>
+        requires { AtomsFit self.old }
+        ensures same_tables { SameTables self.old self.new }
+        ensures keys_kept { KeysKept self.old self.new }
+        ensures made { MakesAtom self.old.used (outcome_told result self.new.used)
+            self.old.rows.now self.new.rows.now }
+    {
+        let k = self.used.atoms;
+        self.used.atoms = k + 1;
+        let mut rows = Filled {
+            table: &mut *self.rows,
+            len: self.used.rows,
+        };
+        let row = values::appear_new(&mut rows, k);
+        self.used.rows = rows.len;
+        row.ok_or(Halt::Full(Full::Rows))
+    }
+
+    // An atom for a handle, where there is a place for the key that it is to get: ending 33 comes before ending 32.
+    fn new_handle(&mut self) -> Result<usize, Halt>
+        requires { AtomsFit self.old }
+        ensures same_tables { SameTables self.old self.new }
+        ensures keys_kept { KeysKept self.old self.new }
+        ensures made { MakesHandle (length self.old.keys.now) self.old.used (outcome_told result self.new.used)
+            self.old.rows.now self.new.rows.now }
+    {
+        if self.used.keys < self.keys.len() {
+            return self.new_atom();
+        }
+        Err(Halt::Full(Full::Keys))
+    }
+
+    // The value in row k is kept under the handle in row h, at the next place, and is guarded where that is asked for. The handle is given.
+    fn keep(&mut self, h: usize, k: usize, t: u8, guarded: bool) -> usize
+        requires { (self.old.used.keys < length self.old.keys.now) × (self.old.used.guards < length self.old.guards.now)
+            × (h < 65536) × (k < 65536) }
+        ensures same_tables { SameTables self.old self.new }
+        ensures rows_kept { self.new.rows.now ≡ self.old.rows.now }
+        ensures kept { Keeps self.old.used h k t guarded (Gave self.new.used result)
+            self.old.keys.now self.old.guards.now self.new.keys.now self.new.guards.now }
+    {
+        self.keys[self.used.keys] = key_code(h, k, t);
+        self.used.keys += 1;
+        if guarded {
+            self.guards[self.used.guards] = k as u64;
+            self.used.guards += 1;
+        }
+        h
+    }
+
+    // A new handle, then a new key, which is guarded under S or A.
+    fn generate(&mut self, t: u8) -> Result<usize, Halt>
+        requires { ReadyIn self.old }
+        ensures same_tables { SameTables self.old self.new }
+        ensures performed { (σ : State) → Stands σ self.old → PerformsIn σ (generate (room_in self.old) t σ) result self.new }
+    {
+        let h = self.new_handle()?;
+        let k = self.new_atom()?;
+        Ok(self.keep(h, k, t, (t % 2 == 1) | (t / 2 % 2 == 1)))
+    }
+
+    // A new handle for the value in row x, which is guarded under A alone.
+    fn store(&mut self, x: usize, t: u8) -> Result<usize, Halt>
+        requires { ReadyIn self.old × (x < self.old.used.rows) }
+        ensures same_tables { SameTables self.old self.new }
+        ensures performed { (σ : State) → Stands σ self.old
+            → PerformsIn σ (store (room_in self.old) (value_at σ.world.rows x) t σ) result self.new }
+    {
+        let h = self.new_handle()?;
+        Ok(self.keep(h, x, t, t / 2 % 2 == 1))
+    }
+
+    // One step. x and y are the rows of the values that its fields a and b name, below the number of rows where the op uses them.
+    pub fn perform_step(&mut self, s: Step, x: usize, y: usize) -> Result<usize, Halt>
+        requires { ReadyIn self.old × Named s x y self.old.used.rows }
+        ensures same_tables { SameTables self.old self.new }
+        ensures performed { (σ : State) → Stands σ self.old
+            → PerformsIn σ (perform (room_in self.old) (op_of s) s (value_at σ.world.rows x) (value_at σ.world.rows y) σ)
+            result self.new }
+    {
+        match s.op() {
+            Op::Return => Err(Halt::Ended(x)),
+            Op::Get => {
+                let keys = Filled {
+                    table: &mut *self.keys,
+                    len: self.used.keys,
+                };
+                get(&keys, s, x)
             }
-            Outcome::Stopped(c)
+            Op::Generate => self.generate(s.t),
+            Op::Store => self.store(x, s.t),
+            Op::Compute(operation) => self.compute(operation, x, y),
+            Op::Unknown => Err(Halt::Stopped),
         }
     }
-}
 
-// One step. x and y are the rows of the values that its fields a and b name, below the number of rows where the op uses them.
-pub fn perform_step(
-    rows: &mut [u64],
-    keys: &mut [u64],
-    guards: &mut [u64],
-    c: Counts,
-    s: Step,
-    x: usize,
-    y: usize,
-) -> Outcome
-    requires { Ready c rows.old keys.old guards.old × Named s x y c.rows }
-    ensures { (σ : State) → Carries σ rows.old keys.old guards.old → FewAtoms σ → c ≡ counts_of σ → Performs σ (perform (room_of rows.old keys.old) (op_of s) s (value_at σ.world.rows x) (value_at σ.world.rows y) σ) result rows.new keys.new guards.new }
-{
-    let n = c.rows;
-    let op = s.op;
-    match op {
-        0 => Outcome::Ended(c, x),
-        1 => get(keys, c, s, x),
-        2 => generate(rows, keys, guards, c, s.t),
-        3 => store(rows, keys, guards, c, x, s.t),
-        4 => took(c, values::encrypt_rows(rows, n, x, y)),
-        5 => took(c, values::decrypt_rows(rows, n, x, y)),
-        6 => took(c, values::derive_row(rows, n, s.t as usize, y)),
-        _ => Outcome::Stopped(c),
+    // An operation over the values in rows x and y, where it uses them.
+    pub fn compute(&mut self, operation: Operation, x: usize, y: usize) -> Result<usize, Halt>
+        requires { ReadyIn self.old × OperandsBelow operation x y self.old.used.rows }
+        ensures same_tables { SameTables self.old self.new }
+        ensures performed { (σ : State) → Stands σ self.old
+            → PerformsIn σ
+            (appear (room_in self.old) (compute operation (operands operation (value_at σ.world.rows x) (value_at σ.world.rows y))) σ)
+            result self.new }
+    {
+        let mut rows = Filled {
+            table: &mut *self.rows,
+            len: self.used.rows,
+        };
+        let row = computed(&mut rows, operation, x, y);
+        self.used.rows = rows.len;
+        row.ok_or(Halt::Full(Full::Rows))
     }
-}
 
-// Back to the counts of an earlier state of the same line: what the line has added since is made unused again.
-pub fn undo_line(rows: &mut [u64], keys: &mut [u64], earlier: Counts, later: Counts)
-    requires { (earlier.rows ≤ later.rows) × (later.rows ≤ length rows.old) × (earlier.keys ≤ later.keys) × (later.keys ≤ length keys.old) }
-    ensures { (σ σ' : State) (guards : List ℕ) → Tidy σ → Carries σ' rows.old keys.old guards → Extends σ σ' → earlier ≡ counts_of σ → later ≡ counts_of σ' → Carries σ rows.new keys.new guards }
-{
-    values::forget(rows, earlier.rows, later.rows);
-    values::forget(keys, earlier.keys, later.keys);
+    // Back to the counts of an earlier state of the same line: what the line has added since is made unused again.
+    pub fn undo_line(&mut self, earlier: Counts)
+        requires { (earlier.rows ≤ self.old.used.rows) × (self.old.used.rows ≤ length self.old.rows.now)
+            × (earlier.keys ≤ self.old.used.keys) × (self.old.used.keys ≤ length self.old.keys.now) }
+        ensures same_tables { SameTables self.old self.new }
+        ensures counted { self.new.used ≡ earlier }
+        ensures guards_kept { self.new.guards.now ≡ self.old.guards.now }
+        ensures undone { (σ σ' : State) → Tidy σ → CarriedIn σ' self.old → Extends σ σ' → earlier ≡ counts_of σ
+            → self.old.used ≡ counts_of σ' → CarriedIn σ self.new }
+    {
+        let mut rows = Filled {
+            table: &mut *self.rows,
+            len: self.used.rows,
+        };
+        rows.truncate(earlier.rows);
+        let mut keys = Filled {
+            table: &mut *self.keys,
+            len: self.used.keys,
+        };
+        keys.truncate(earlier.keys);
+        // Nobody looks at the guards past their count, so they need not be cleared.
+        self.used = earlier;
+    }
 }

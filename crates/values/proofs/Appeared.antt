@@ -1,16 +1,17 @@
 -- What the answer tells of a value that appeared, and of the rows then.
 -- Assumes nothing.
 use Prim.Native.Nat.{ℕ, ◌<◌}
-use mathlib.Core.Path.{◌≡◌, refl, sym, ◌∙◌}
+use mathlib.Core.Path.{◌≡◌, refl, sym, ap, ◌∙◌}
 use mathlib.Core.Bool.{Bool, true, false, cond}
-use mathlib.Core.List.{List, [], ◌∷◌, ◌++◌, append-nil}
+use mathlib.Core.List.{List, [], ◌∷◌, ◌++◌}
 use native.Mathlib.Omega.{arith}
 use lib.Dec.{ltb}
 use lib.ListN.{length, length-append}
+use Rattle.std.specs.Prelude.{Option, Some, None}
 use Rattle.model.specs.Value.{Value, row_of, present}
-use Rattle.values.specs.Holds.{answer_in, rows_in, Appeared}
-use Rattle.values.specs.declared.Interned.{Interned}
-use Rattle.values.specs.declared.Interned.TheVariants.{Found, Added, NoRoom}
+use Rattle.values.specs.Holds.{answer_in, rows_in, Appeared, AppearedIn}
+use Rattle.values.specs.Interned.{Interned, Found, Added, NoRoom, interned_told}
+use Rattle.values.specs.declared.Filled.{Filled}
 use Rattle.values.proofs.Present.{present_means_below, below_means_present, row_added}
 
 -- Found i: the value was there, in row i
@@ -42,20 +43,11 @@ answer_says : (len : ℕ) (v : Value) (vs : List Value) → Says len v vs (answe
 unfolding answer_in rows_in
 answer_says len v vs = go (present v vs) (ltb (length vs) len) refl refl
   where
-    go : (b c : Bool) → present v vs ≡ b → ltb (length vs) len ≡ c → Says len v vs (cond b (Found (row_of v vs)) (cond c (Added (length vs)) NoRoom))
+    go : (b c : Bool) → present v vs ≡ b → ltb (length vs) len ≡ c
+        → Says len v vs (cond b (Found (row_of v vs)) (cond c (Added (length vs)) NoRoom))
     go true c e f = record { there = e; row = refl; rows = rw e }
     go false true e f = record { new = e; room = f; row = refl; rows = rw (e, f) }
     go false false e f = record { new = e; full = f; rows = rw (e, f) }
-
--- rows are only added
-pub rows_extended : (len : ℕ) (v : Value) (vs : List Value) → (ws : List Value) × (rows_in len v vs ≡ vs ++ ws)
-unfolding rows_in
-rows_extended len v vs = go (present v vs) (ltb (length vs) len)
-  where
-    go : (b c : Bool) → (ws : List Value) × (cond b vs (cond c (vs ++ v ∷ []) vs) ≡ vs ++ ws)
-    go true c = ([], sym (append-nil vs))
-    go false true = (v ∷ [], refl)
-    go false false = ([], sym (append-nil vs))
 
 -- v has row i of the rows us
 pub record HasRow (v : Value) (us : List Value) (i : ℕ) : Type 0 where
@@ -84,3 +76,38 @@ module _ {v : Value} {vs : List Value} {r : Interned} {before exit : List ℕ} (
       let at : row_of v (vs ++ v ∷ []) ≡ i = row_added v vs f.new ∙ sym f.row in
       let within : i < length (vs ++ v ∷ []) = omega (arith, length-append vs (v ∷ [])) in
       rw f.rows (record { there = below_means_present v (vs ++ v ∷ []) (omega arith); row = at; within = within })
+
+-- ---- the same from the code's answer
+
+-- the row, where there is one
+abbrev pub row_given : Interned → Option ℕ
+row_given (Found i) = Some i
+row_given (Added i) = Some i
+row_given NoRoom = None
+
+told_back : (r : Option ℕ) (n m : ℕ) → row_given (interned_told r n m) ≡ r
+told_back None n m = refl
+told_back (Some i) n m = go (ltb n m)
+  where
+    go : (b : Bool) → row_given (cond b (Added i) (Found i)) ≡ Some i
+    go true = refl
+    go false = refl
+
+module _ {v : Value} {vs : List Value} {r : Option ℕ} {before exit : Filled} (A : AppearedIn v vs r before exit) where
+  pub answer_is : r ≡ row_given (answer_in (length before.table.now) v vs)
+  answer_is = sym (told_back r before.len exit.len) ∙ ap row_given A.appeared.answer
+
+  pub has_row_when_some : {i : ℕ} → r ≡ Some i → HasRow v (rows_in (length before.table.now) v vs) i
+  has_row_when_some {i} e = go (interned_told r before.len exit.len) refl
+    where
+      go : (t : Interned) → interned_told r before.len exit.len ≡ t → HasRow v (rows_in (length before.table.now) v vs) i
+      go (Found j) f =
+          let at : j ≡ i = cc (told_back r before.len exit.len) in
+          has_row_when_found A.appeared (f ∙ ap Found at)
+      go (Added j) f =
+          let at : j ≡ i = cc (told_back r before.len exit.len) in
+          has_row_when_added A.appeared (f ∙ ap Added at)
+      go NoRoom f = let z : ◌≡◌ {A = ℕ} 0 1 = cc (told_back r before.len exit.len) in absurd (omega arith)
+
+  pub no_room_when_none : r ≡ None → HadNoRoom (length before.table.now) v vs
+  no_room_when_none e = when_no_room A.appeared (rw e)

@@ -8,13 +8,13 @@ use native.Mathlib.Omega.{arith}
 use lib.Dec.{eqb}
 use lib.ListN.{length, length-map}
 use borrow.Author.Tests.{eq-eqb, ne_eqb}
+use Rattle.std.specs.Prelude.{Some}
 use Rattle.model.specs.Basics.{index_by}
 use Rattle.model.specs.Value.{Value, const, fresh, enc, dec, div, same, row_of, value_at}
 use Rattle.model.specs.Tables.{packed, value_code, row_codes, PartsBelow, Rows}
 use Rattle.values.specs.Coding.{row_of_kind, decode_row}
 use Rattle.values.specs.declared.Row.{Row}
 use Rattle.values.specs.declared.Row.TheVariants.{Const, Fresh, Enc, Dec, Div}
-use Rattle.values.specs.declared.Read.TheVariants as read
 use Rattle.values.proofs.Index.{index_of_map, map_of_same}
 use Rattle.values.proofs.Present.{same_itself, same_is_equal, below_means_present, value_at_its_row, row_kept}
 use Rattle.values.proofs.Rows.{parts_at}
@@ -50,7 +50,8 @@ module _ (kind a b : ℕ) (ha : a < 65536) (hb : b < 65536) where
   unfolding decode_row
   unpacked = λ i. row_of_kind (kind_back i) (first_back i) (second_back i)
 
-pub number_tells_row : (vs : List Value) (i : ℕ) → i ≤ 65536 → (v : Value) → PartsBelow vs i v → decode_row (value_code vs v) ≡ read.Row (as_row vs v)
+pub number_tells_row : (vs : List Value) (i : ℕ) → i ≤ 65536 → (v : Value) → PartsBelow vs i v
+    → decode_row (value_code vs v) ≡ Some (as_row vs v)
 number_tells_row vs i h (const n) p = unpacked 1 0 n (omega arith) p
 number_tells_row vs i h (fresh n) p = unpacked 2 0 n (omega arith) p
 number_tells_row vs i h (enc v k) p = unpacked 3 (row_of v vs) (row_of k vs) (omega arith) (omega arith)
@@ -129,7 +130,8 @@ module _ {vs : List Value} (R : Rows vs) where
   codes_with_one_more v p = codes_of_first (v ∷ []) ∙ ap (λ x. row_codes vs ++ x ∷ []) (number_kept vs (v ∷ []) v p)
 
   -- a value's number is found where the value is
-  pub number_found : length vs ≤ 65536 → (v : Value) → PartsBelow vs (length vs) v → index_by (eqb (value_code vs v)) (row_codes vs) ≡ row_of v vs
+  pub number_found : length vs ≤ 65536 → (v : Value) → PartsBelow vs (length vs) v
+      → index_by (eqb (value_code vs v)) (row_codes vs) ≡ row_of v vs
   unfolding row_codes
   number_found small v p =
       index_of_map (const 0) (value_code vs) (eqb (value_code vs v)) (same v) vs

@@ -8,14 +8,15 @@ use native.Mathlib.Omega.{arith}
 use borrow.Author.Count.{below_more}
 use lib.ListN.{length, get_or, take, set, length-append}
 use lib.Seq.{get_or-take, take_at, ext_get_or}
+use Rattle.std.specs.Prelude.{Some}
+use Rattle.std.proofs.lemmas.List.{get_or-map}
 use Rattle.model.specs.Value.{Value, const, present, value_at}
 use Rattle.model.specs.Tables.{zeros, padded, value_code, row_codes, PartsBelow, Rows}
 use Rattle.values.specs.Coding.{decode_row}
 use Rattle.values.specs.Holds.{Holds}
-use Rattle.values.specs.declared.Read.TheVariants as read
-use Rattle.values.proofs.Index.{get_d_of_map}
 use Rattle.values.proofs.Rows.{no_rows, parts_at, rows_of_first, rows_with_one_more}
-use Rattle.values.proofs.Codes.{as_row, AgreeBelow, number_tells_row, number_is_not_zero, number_tells_value, length_codes, codes_of_first, codes_with_one_more}
+use Rattle.values.proofs.Codes.{as_row, AgreeBelow, number_tells_row, number_is_not_zero, number_tells_value}
+use Rattle.values.proofs.Codes.{length_codes, codes_of_first, codes_with_one_more}
 use Rattle.values.proofs.Padded.{length_padded, take_padded, zero_next, set_next}
 
 -- ---- the numbers of a table that holds rows
@@ -35,9 +36,9 @@ module _ {t : List ℕ} {vs : List Value} (H : Holds t vs) where
   number_at i h =
       sym (get_or-take (length vs) t i 0 h)
       ∙ ap (λ l. get_or l i 0) (first_numbers (length vs) (omega arith))
-      ∙ get_d_of_map (const 0) (value_code vs) vs i h
+      ∙ get_or-map (value_code vs) vs i (const 0) 0 h
 
-  pub row_read : (i : ℕ) → i < length vs → decode_row (get_or t i 0) ≡ read.Row (as_row vs (value_at vs i))
+  pub row_read : (i : ℕ) → i < length vs → decode_row (get_or t i 0) ≡ Some (as_row vs (value_at vs i))
   row_read i h =
       ap decode_row (number_at i h) ∙ number_tells_row vs (length vs) (omega arith) (value_at vs i) (parts_at H.rows i h)
 

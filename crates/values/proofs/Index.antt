@@ -1,68 +1,44 @@
 -- Laws on the first index that passes a test, and on tests and maps that agree at every place of a list.
 -- Assumes nothing.
-use Prim.Native.Nat.{ℕ, zero, suc, ◌+◌, ◌≤◌, ◌<◌, zero-le}
+use Prim.Native.Nat.{ℕ, zero, suc, ◌+◌, ◌≤◌, ◌<◌}
 use mathlib.Core.Path.{◌≡◌, refl, sym, ap, ◌∙◌}
-use mathlib.Core.Bool.{Bool, true, false, cond}
+use mathlib.Core.Bool.{Bool, true, cond, not}
 use mathlib.Core.List.{List, [], ◌∷◌, ◌++◌, map}
 use native.Mathlib.Omega.{arith}
 use native.Mathlib.Decide.{dec_lt}
-use lib.Dec.{eqb}
-use lib.ListN.{length, get_or, take}
-use lib.Seq.{get_or-take, length-take-le}
+use lib.Dec.{ltb, eqb}
+use lib.ListN.{length, get_or}
 use borrow.Author.Tests.{eq-eqb, ne_eqb}
+use Rattle.std.specs.Prelude.{Some, None, position}
+use Rattle.std.specs.List.{position_or_len}
+use Rattle.std.proofs.lemmas.List.Folds.{prefix_len-append}
+use Rattle.std.proofs.lemmas.List.Recursion.{is_position_or_len}
+use Rattle.std.proofs.lemmas.List.Sums.{prefix_len-le-length, passes_at_first}
 use Rattle.model.specs.Basics.{index_by}
 
 module _ {A : Type 0} (q : A → Bool) where
-  pub index_at_most_length : (l : List A) → index_by q l ≤ length l
+  -- the library's word for the same place
+  as_place : (l : List A) → index_by q l ≡ position_or_len q l
   unfolding index_by
-  index_at_most_length [] = zero-le
-  index_at_most_length (x ∷ xs) = go (q x) (index_at_most_length xs)
-    where
-      go : (b : Bool) → index_by q xs ≤ length xs → cond b zero (suc (index_by q xs)) ≤ suc (length xs)
-      go true h = omega arith
-      go false h = omega arith
+  as_place l = is_position_or_len (index_by q) q refl (λ x xs. ap (cond (q x) 0) (omega arith)) l
+
+  pub position_by_index : (l : List A) → position q l ≡ cond (ltb (index_by q l) (length l)) (Some (index_by q l)) None
+  position_by_index l = rw (as_place l)
+
+  pub index_at_most_length : (l : List A) → index_by q l ≤ length l
+  index_at_most_length l = rw (as_place l) (prefix_len-le-length (λ x. not (q x)) l)
 
   pub passes_at_index : (l : List A) (d : A) → index_by q l < length l → q (get_or l (index_by q l) d) ≡ true
-  unfolding index_by
-  passes_at_index [] d h = absurd (omega arith)
-  passes_at_index (x ∷ xs) d h = go (q x) refl h (passes_at_index xs d)
-    where
-      go : (b : Bool) → q x ≡ b → cond b zero (suc (index_by q xs)) < suc (length xs)
-          → (index_by q xs < length xs → q (get_or xs (index_by q xs) d) ≡ true)
-          → q (get_or (x ∷ xs) (cond b zero (suc (index_by q xs))) d) ≡ true
-      go true e h later = e
-      go false e h later = later (omega arith)
+  passes_at_index l d h = rw (as_place l) (passes_at_first q l d (rw (as_place l) at h))
 
-  -- nothing passes before i, and i passes or is the end
-  index_is : (l : List A) (d : A) (i : ℕ) → i ≤ length l → ((k : ℕ) → k < i → q (get_or l k d) ≡ false)
-      → (i < length l → q (get_or l i d) ≡ true) → index_by q l ≡ i
-  unfolding index_by
-  index_is [] d i h before at = omega arith
-  index_is (x ∷ xs) d zero h before at = rw (at (omega arith))
-  index_is (x ∷ xs) d (suc i) h before at =
-      rw (before zero (omega arith), index_is xs d i (omega arith) (λ k l. before (suc k) (omega arith)) (λ l. at (omega arith)))
+  index_of_append : (l m : List A) → index_by q (l ++ m) ≡ cond (eqb (index_by q l) (length l)) (length l + index_by q m) (index_by q l)
+  index_of_append l m = rw (as_place (l ++ m), as_place l, as_place m) (prefix_len-append (λ x. not (q x)) l m)
 
   pub index_kept_by_append : (l m : List A) → index_by q l < length l → index_by q (l ++ m) ≡ index_by q l
-  unfolding index_by
-  index_kept_by_append [] m h = absurd (omega arith)
-  index_kept_by_append (x ∷ xs) m h = go (q x) h (index_kept_by_append xs m)
-    where
-      go : (b : Bool) → cond b zero (suc (index_by q xs)) < suc (length xs)
-          → (index_by q xs < length xs → index_by q (xs ++ m) ≡ index_by q xs)
-          → cond b zero (suc (index_by q (xs ++ m))) ≡ cond b zero (suc (index_by q xs))
-      go true h later = refl
-      go false h later = ap suc (later (omega arith))
+  index_kept_by_append l m h = index_of_append l m ∙ rw (ne_eqb (index_by q l) (length l) (λ e. omega arith))
 
   pub index_goes_on_after : (l m : List A) → index_by q l ≡ length l → index_by q (l ++ m) ≡ length l + index_by q m
-  unfolding index_by
-  index_goes_on_after [] m h = omega arith
-  index_goes_on_after (x ∷ xs) m h = go (q x) h (index_goes_on_after xs m)
-    where
-      go : (b : Bool) → cond b zero (suc (index_by q xs)) ≡ suc (length xs)
-          → (index_by q xs ≡ length xs → index_by q (xs ++ m) ≡ length xs + index_by q m)
-          → cond b zero (suc (index_by q (xs ++ m))) ≡ suc (length xs) + index_by q m
-      go true h later = absurd (omega arith)
-      go false h later = omega (arith, later (omega arith))
+  index_goes_on_after l m e = index_of_append l m ∙ rw (eq-eqb (index_by q l) (length l) e)
 
   pub index_within_first : (l m : List A) → index_by q (l ++ m) < length l → index_by q l ≡ index_by q (l ++ m)
   index_within_first l m h = go (dec_lt (index_by q l) (length l))
@@ -83,23 +59,3 @@ module _ {A : Type 0} (d : A) where
   map_of_same f g [] same = refl
   map_of_same f g (x ∷ xs) same =
       rw (same zero (omega arith), map_of_same f g xs (λ k l. same (suc k) (omega arith)))
-
-  pub get_d_of_map : (f : A → ℕ) (l : List A) (i : ℕ) → i < length l → get_or (map f l) i 0 ≡ f (get_or l i d)
-  get_d_of_map f [] i h = absurd (omega arith)
-  get_d_of_map f (x ∷ xs) zero h = refl
-  get_d_of_map f (x ∷ xs) (suc i) h = get_d_of_map f xs i (omega arith)
-
--- a search for x among the first n numbers of t that has passed i of them
-module _ (x : ℕ) (t : List ℕ) (n i : ℕ) (fits : n ≤ length t) (passed : (k : ℕ) → k < i → get_or t k 0 ≡ x → ⊥) where
-  missed : i ≤ n → (k : ℕ) → k < i → eqb x (get_or (take n t) k 0) ≡ false
-  missed h k l = ne_eqb _ _ (λ e. passed k l (sym (e ∙ get_or-take n t k 0 (omega arith))))
-
-  pub search_finds : i < n → get_or t i 0 ≡ x → i ≡ index_by (eqb x) (take n t)
-  search_finds l e =
-      sym (index_is (eqb x) (take n t) 0 i (omega (arith, length-take-le n t fits)) (missed (omega arith))
-      (λ _. eq-eqb _ _ (sym (get_or-take n t i 0 l ∙ e))))
-
-  pub search_ends : i ≡ n → i ≡ index_by (eqb x) (take n t)
-  search_ends e =
-      sym (index_is (eqb x) (take n t) 0 i (omega (arith, length-take-le n t fits)) (missed (omega arith))
-      (λ h. absurd (omega (arith, length-take-le n t fits))))

@@ -5,5 +5,7 @@ pub mod Rows
 pub mod Codes
 pub mod Padded
 pub mod Held
+pub mod Interning
+pub mod Forgetting
 pub mod Steps
 pub mod Appeared

@@ -1,12 +1,8 @@
 -- Rows as the code makes their numbers and takes them apart, and what it asks of a row.
-use Rattle.std.specs.Prelude.{ℕ, ◌<◌, ◌/◌, ◌%◌, Bool, true, false, cond, eqb}
+use Rattle.std.specs.Prelude.{ℕ, ◌<◌, ◌/◌, ◌%◌, Bool, true, false, cond, eqb, Option, Some, None}
 use Rattle.model.specs.Tables.{packed}
 use Rattle.values.specs.declared.Row.{Row}
 use Rattle.values.specs.declared.Row.TheVariants.{Const, Fresh, Enc, Dec, Div}
-use Rattle.values.specs.declared.Read.{Read}
-use Rattle.values.specs.declared.Read.TheVariants as read
-use Rattle.values.specs.declared.Undone.{Undone}
-use Rattle.values.specs.declared.Undone.TheVariants.{To, Not}
 
 -- a row whose number can be taken apart again: no part needs more than its sixteen bits
 abbrev pub RowFits : Row → Type 0
@@ -23,15 +19,15 @@ code_row (Enc a b) = packed 3 a b
 code_row (Dec a b) = packed 4 a b
 code_row (Div a b) = packed 5 a b
 
-abbrev pub row_of_kind : ℕ → ℕ → ℕ → Read
+abbrev pub row_of_kind : ℕ → ℕ → ℕ → Option Row
 row_of_kind kind a b =
-    cond (eqb kind 1) (read.Row (Const b))
-    (cond (eqb kind 2) (read.Row (Fresh b))
-    (cond (eqb kind 3) (read.Row (Enc a b))
-    (cond (eqb kind 4) (read.Row (Dec a b))
-    (cond (eqb kind 5) (read.Row (Div a b)) read.Unused))))
+    cond (eqb kind 1) (Some (Const b))
+    (cond (eqb kind 2) (Some (Fresh b))
+    (cond (eqb kind 3) (Some (Enc a b))
+    (cond (eqb kind 4) (Some (Dec a b))
+    (cond (eqb kind 5) (Some (Div a b)) None))))
 
-unfoldable pub decode_row : ℕ → Read
+unfoldable pub decode_row : ℕ → Option Row
 decode_row x = row_of_kind (x / 4294967296) (x / 65536 % 65536) (x % 65536)
 
 abbrev pub constant_row : Row → Bool
@@ -41,18 +37,18 @@ constant_row (Enc a b) = false
 constant_row (Dec a b) = false
 constant_row (Div a b) = false
 
-abbrev pub constant_read : Read → Bool
-constant_read (read.Row r) = constant_row r
-constant_read read.Unused = false
+abbrev pub constant_read : Option Row → Bool
+constant_read (Some r) = constant_row r
+constant_read None = false
 
 -- what a row comes to when it is decrypted under row b
-abbrev pub undone_row : Row → ℕ → Undone
-undone_row (Const n) b = Not
-undone_row (Fresh n) b = Not
-undone_row (Enc v k) b = cond (eqb k b) (To v) Not
-undone_row (Dec v k) b = Not
-undone_row (Div l v) b = Not
+abbrev pub undone_row : Row → ℕ → Option ℕ
+undone_row (Const n) b = None
+undone_row (Fresh n) b = None
+undone_row (Enc v k) b = cond (eqb k b) (Some v) None
+undone_row (Dec v k) b = None
+undone_row (Div l v) b = None
 
-abbrev pub undone_read : Read → ℕ → Undone
-undone_read (read.Row r) b = undone_row r b
-undone_read read.Unused b = Not
+abbrev pub undone_read : Option Row → ℕ → Option ℕ
+undone_read (Some r) b = undone_row r b
+undone_read None b = None

@@ -1,4 +1,5 @@
--- Making the last entries of a table unused again: where there are zeros after the first `to` of them, there are zeros after the first `from`.
+-- Making the last entries of a table unused again: where there are zeros after the first `to` of them, there are zeros then
+-- after the first `from`.
 use Rattle.std.specs.Prelude.{ℕ, ◌≡◌, List, length, take}
 use Rattle.model.specs.Tables.{padded}
 

@@ -1,9 +1,9 @@
 -- When a lent table holds the rows of a run, and what a function answers and leaves there when a value appears.
-use Rattle.std.specs.Prelude.{ℕ, ◌≤◌, ◌≡◌, cond, List, [], ◌∷◌, ◌++◌, ltb, length}
+use Rattle.std.specs.Prelude.{ℕ, ◌≤◌, ◌≡◌, cond, List, [], ◌∷◌, ◌++◌, ltb, length, Option}
 use Rattle.model.specs.Value.{Value, row_of, present}
 use Rattle.model.specs.Tables.{padded, row_codes, Rows}
-use Rattle.values.specs.declared.Interned.{Interned}
-use Rattle.values.specs.declared.Interned.TheVariants.{Found, Added, NoRoom}
+use Rattle.values.specs.Interned.{Interned, Found, Added, NoRoom, interned_told}
+use Rattle.values.specs.declared.Filled.{Filled}
 
 -- the table t holds the rows vs and nothing else
 pub record Holds (t : List ℕ) (vs : List Value) : Type 0 where
@@ -23,3 +23,8 @@ pub record Appeared (v : Value) (vs : List Value) (r : Interned) (before exit : 
   pub answer : r ≡ answer_in (length before) v vs
   pub holds : Holds exit (rows_in (length before) v vs)
   pub length_kept : length exit ≡ length before
+
+-- the same of a table with its length, from the code's answer
+pub record AppearedIn (v : Value) (vs : List Value) (r : Option ℕ) (before exit : Filled) : Type 0 where
+  pub appeared : Appeared v vs (interned_told r before.len exit.len) before.table.now exit.table.now
+  pub counted : exit.len ≡ length (rows_in (length before.table.now) v vs)

@@ -1,14 +1,16 @@
 -- `keys::stored` meets its contract, where the handle is found and where it is not.
 -- Assumes nothing.
-use borrow.Author.Tests.{lt-ltb, le-ltb}
-use Rattle.keys.specs.Stored.{stored_of}
+use mathlib.Core.Path.{ap, sym, ◌∙◌}
+use Rattle.std.specs.Prelude.{Some}
+use Rattle.keys.proofs.Searching.{stored_by_place}
 use Rattle.keys.proofs.stored.Goals as goal
 
-pub returns-then-i-n : goal.returns-then-i-n
-unfolding stored_of
-returns-then-i-n c =
-    rw (← c.find_handle-i.ensures, lt-ltb _ _ c.if-i-n.true) c.found_at.ensures
+pub returns-in_err-i : goal.returns-in_err-i
+returns-in_err-i c =
+    let t = c.args.keys.now in
+    c.from_residual.ensures ∙ stored_by_place t.table.now t.len c.args.x c.requires.0 (sym c.in_err-i.was ∙ c.find_handle.ensures)
 
 pub returns : goal.returns
-unfolding stored_of
-returns c = rw (← c.find_handle-i.ensures, le-ltb _ _ c.if-i-n.false)
+returns c =
+    let t = c.args.keys.now in
+    ap Some c.found_at.ensures ∙ stored_by_place t.table.now t.len c.args.x c.requires.0 (sym c.in_ok-i.was ∙ c.find_handle.ensures)

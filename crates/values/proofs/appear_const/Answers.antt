@@ -2,9 +2,9 @@
 -- Assumes nothing.
 use mathlib.Core.Path.{refl}
 use Rattle.model.specs.Value.{const}
-use Rattle.values.proofs.Steps.{intern_appears}
+use Rattle.values.proofs.Steps.{interned_appears}
 use Rattle.values.proofs.appear_const.Goals as goal
 
-pub returns : goal.returns
-returns c =
-    λ vs H count. intern_appears H count (const _) c.requires.1 refl c.intern.ensures
+pub returns-clause-appears : goal.returns-clause-appears
+returns-clause-appears c =
+    λ vs H count. interned_appears c.args.rows.now H count (const _) c.requires.1 refl c.intern.ensures.interns

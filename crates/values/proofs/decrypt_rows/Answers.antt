@@ -4,12 +4,11 @@ use native.Mathlib.Omega.{arith}
 use Rattle.values.proofs.Steps.{undone_appears, not_undone_appears}
 use Rattle.values.proofs.decrypt_rows.Goals as goal
 
-pub returns-in_default : goal.returns-in_default
-returns-in_default c =
-    λ vs H count.
-    not_undone_appears H count (omega arith) (omega arith) c.undo-undone.ensures c.in_default.is c.intern.ensures
+pub returns-in-Some-clause-appears : goal.returns-in-Some-clause-appears
+returns-in-Some-clause-appears c =
+    λ vs H count. undone_appears c.args.rows.now H count (omega arith) (omega arith) c.undo.ensures c.in-Some.is
 
-pub returns : goal.returns
-returns c =
+pub returns-clause-appears : goal.returns-clause-appears
+returns-clause-appears c =
     λ vs H count.
-    undone_appears H count (omega arith) (omega arith) c.undo-undone.ensures c.in-To.is
+    not_undone_appears c.args.rows.now H count (omega arith) (omega arith) c.undo.ensures c.in_default.is c.intern.ensures.interns

@@ -4,6 +4,6 @@ use native.Mathlib.Omega.{arith}
 use Rattle.values.proofs.Steps.{derive_appears}
 use Rattle.values.proofs.derive_row.Goals as goal
 
-pub returns : goal.returns
-returns c =
-    λ vs H count. derive_appears H count (omega arith) (omega arith) c.intern.ensures
+pub returns-clause-appears : goal.returns-clause-appears
+returns-clause-appears c =
+    λ vs H count. derive_appears c.args.rows.now H count (omega arith) (omega arith) (rw c.from.ensures at c.intern.ensures.interns)

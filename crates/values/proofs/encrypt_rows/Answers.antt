@@ -4,6 +4,6 @@ use native.Mathlib.Omega.{arith}
 use Rattle.values.proofs.Steps.{encrypt_appears}
 use Rattle.values.proofs.encrypt_rows.Goals as goal
 
-pub returns : goal.returns
-returns c =
-    λ vs H count. encrypt_appears H count (omega arith) (omega arith) c.intern.ensures
+pub returns-clause-appears : goal.returns-clause-appears
+returns-clause-appears c =
+    λ vs H count. encrypt_appears c.args.rows.now H count (omega arith) (omega arith) c.intern.ensures.interns

@@ -1,21 +1,16 @@
 -- `values::intern` meets its contract: the search for the row's number answers, or the number is added.
 -- Assumes nothing.
-use borrow.Author.Tests.{lt-ltb, le-ltb}
-use Rattle.values.specs.Interning.{intern_answer, intern_table}
+use mathlib.Core.Path.{sym, ◌∙◌}
+use Rattle.values.proofs.Interning.{stored_by_push, interns_found, interns_added}
 use Rattle.values.proofs.intern.Goals as goal
 
-pub returns-then-i-n : goal.returns-then-i-n
-unfolding intern_answer intern_table
-returns-then-i-n c =
-    record {
-      answer = rw (← c.code-x.ensures, ← c.find_code-i.ensures, lt-ltb _ _ c.if-i-n.true);
-      table = rw (← c.code-x.ensures, ← c.find_code-i.ensures, lt-ltb _ _ c.if-i-n.true);
-    }
+pub returns-in-Some-clause-interns : goal.returns-in-Some-clause-interns
+returns-in-Some-clause-interns c =
+    let t = c.args.rows.now in
+    rw (← c.code-x.ensures) (interns_found t c.code-x.result c.requires.0 (sym c.in-Some.is ∙ c.find_code.ensures))
 
-pub returns : goal.returns
-unfolding intern_answer intern_table
-returns c =
-    record {
-      answer = rw (← c.code-x.ensures, ← c.find_code-i.ensures, le-ltb _ _ c.if-i-n.false) c.add_code.ensures.answer;
-      table = rw (← c.code-x.ensures, ← c.find_code-i.ensures, le-ltb _ _ c.if-i-n.false) c.add_code.ensures.table;
-    }
+pub returns-clause-interns : goal.returns-clause-interns
+returns-clause-interns c =
+    let t = c.args.rows.now in
+    let put = stored_by_push c.push.ensures.with_room c.push.ensures.full in
+    rw (← c.code-x.ensures) (interns_added t c.code-x.result c.requires.0 (sym c.in_default.is ∙ c.find_code.ensures) put)
