@@ -2,11 +2,12 @@
 -- Assumes nothing.
 use Prim.Native.Nat.{ℕ, ◌-◌, ◌/◌, ◌%◌, ◌≤◌, ◌<◌}
 use mathlib.Core.Path.{◌≡◌, refl, sym, ap, ap₂, subst, ◌∙◌}
-use mathlib.Core.Bool.{true, false}
+use mathlib.Core.Bool.{true}
 use mathlib.Core.List.{List, ◌++◌, map}
 use native.Mathlib.Omega.{arith}
 use borrow.Author.Tests.{eq-eqb, ne_eqb}
 use Rattle.std.proofs.Common.{Option, Some, Ok}
+use Rattle.std.proofs.lemmas.List.{get_or-map as mapped}
 use Rattle.std.specs.Option.{ok_or}
 use lib.Dec.{ltb→lt}
 use lib.ListN.{length, get_or, length-map, get_or-append, get_or-map}
@@ -18,7 +19,6 @@ use Rattle.model.specs.Tables.{zeros, padded, outcome_code}
 use Rattle.model.specs.declared.Full.TheVariants.{Rows}
 use Rattle.values.specs.Holds.{Holds, AppearedIn}
 use Rattle.values.specs.declared.Filled.{Filled}
-use Rattle.values.proofs.Index.{get_d_of_map}
 use Rattle.values.proofs.Present.{present_means_below, present_kept, row_kept}
 use Rattle.values.proofs.Padded.{length_padded}
 use Rattle.token.specs.Outcome.{Gave, outcome_told}
@@ -56,6 +56,15 @@ module _ {σ : State} {t : Token} (S : Stands σ t) where
         extends = extends_refl σ;
       })
 
+-- ---- an entry of a table
+
+pub entry_of : {A : Type 0} (code : A → ℕ) (n : ℕ) (xs : List A) {t : List ℕ} {i : ℕ} → t ≡ padded n (map code xs) → i < length xs
+    → (d : A) → get_or t i 0 ≡ code (get_or xs i d)
+unfolding padded
+entry_of code n xs {i = i} e h d =
+    rw e
+    (get_or-append (map code xs) (zeros (n - length (map code xs))) 0 i (rw (length-map xs code) h) ∙ mapped code xs i d 0 h)
+
 -- ---- an earlier line
 
 -- a finished line's number tells its outcome
@@ -86,12 +95,7 @@ module _ {fs : List Finished} {rows : List Value} {outcomes : List ℕ} (F : Fin
 
   -- the numbers of the table are those of the lines
   number_of_line : (i : ℕ) → i < length fs → get_or outcomes i 0 ≡ outcome_code (finished_at fs i)
-  unfolding padded
-  number_of_line i h =
-      let none_such : Finished = record { outcome = none; row = 0xffff; keys = 0; breach = false } in
-      ap (λ l. get_or l i 0) F.codes_are
-      ∙ get_or-append (map outcome_code fs) (zeros (1024 - length (map outcome_code fs))) 0 i (omega (arith, length-map fs outcome_code))
-      ∙ get_d_of_map none_such outcome_code fs i h
+  number_of_line i h = entry_of outcome_code 1024 fs F.codes_are h _
 
   earlier_told : length rows ≤ 65536 → (i : ℕ) → i < length fs
       → RowIs rows (argument fs (of_line i)) (earlier_from (get_or outcomes i 0))

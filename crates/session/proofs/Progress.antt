@@ -7,9 +7,10 @@ use mathlib.Core.List.{List, [], ◌∷◌, ◌++◌, map, append-nil}
 use native.Mathlib.Omega.{arith}
 use native.Mathlib.Decide.{dec_lt}
 use Rattle.std.proofs.Common.{Err, None, Ok, Option, Result, Some}
+use Rattle.std.proofs.lemmas.List.{get_or_default, map-append}
 use Rattle.std.specs.Bool.{then_some}
 use lib.Dec.{T, ltb}
-use lib.ListN.{length, get_or, take, drop, set, length-append, replicate, length-replicate, length-map, get_or-append, drop_of_length-le}
+use lib.ListN.{length, get_or, take, drop, set, length-append, replicate, length-replicate, length-map, drop_of_length-le}
 use lib.Seq.{drop-cons, length-take-le, get_or-take}
 use borrow.Author.Tests.{lt-ltb, le-ltb}
 use Rattle.model.specs.Basics.{index_by}
@@ -34,7 +35,7 @@ use Rattle.token.specs.Carried.{room_in, counts_of, CarriedIn, PerformsIn, Stand
 use Rattle.token.specs.declared.Halt.{Halt}
 use Rattle.token.specs.declared.Token.{Token}
 use Rattle.line.specs.Lined.{Rowed, RowIs, finished_at, Finishing, LineGiven, LineReady}
-use Rattle.line.proofs.OneArgument.{table_long}
+use Rattle.line.proofs.OneArgument.{entry_of, table_long}
 use Rattle.line.proofs.States.{ready_where_it_stands}
 use Rattle.session.specs.Sessioned.{SessionGiven, GuardsBelow, breached_by, outcome_number, RowBelow, earliest_of, SettledIs, FinishReady, FinishedIs, guards_in, RanIs}
 use Rattle.session.proofs.Hand.{Hand, hand_grown, hand_is_after, breach_is}
@@ -75,18 +76,7 @@ first_marked_after fs f = go (dec_lt (index_by mark fs) (length fs))
         let end : index_by mark fs ≡ length fs = omega (arith, index_at_most_length mark fs) in
         rw (index_goes_on_after mark fs (f ∷ []) end, more, end, le-ltb (length fs) (length fs) (omega arith)) (last_line_decides (length fs) f.breach)
 
--- ---- entries of tables, and what reading has seen to in each line
-
-entry_of : {A : Type 0} (code : A → ℕ) (k : ℕ) (t : List ℕ) (xs : List A) (i : ℕ) (d : A) → t ≡ padded k (map code xs) → i < length xs
-    → get_or t i 0 ≡ code (get_or xs i d)
-unfolding padded
-entry_of code k t xs i d e h =
-    rw e (get_or-append (map code xs) (zeros (k - length (map code xs))) 0 i (rw (length-map xs code) h) ∙ get_d_of_map code xs i d h)
-  where
-    get_d_of_map : {A : Type 0} (f : A → ℕ) (l : List A) (i : ℕ) (d : A) → i < length l → get_or (map f l) i 0 ≡ f (get_or l i d)
-    get_d_of_map f [] i d l = absurd (omega arith)
-    get_d_of_map f (x ∷ xs) zero d l = refl
-    get_d_of_map f (x ∷ xs) (suc i) d l = get_d_of_map f xs i d (omega arith)
+-- ---- what reading has seen to in each line
 
 line_read_at : (cs : List Command) (n : ℕ) (ls : List Line) (i : ℕ) (d : Line) → T (lines_read cs n ls) → i < length ls → T (line_read cs (n + i) (get_or ls i d))
 unfolding lines_read
@@ -198,8 +188,8 @@ module _ {φ : File} {before : Tables} {t : Token} {hand : List Bool} {outcomes 
         (line_read_at φ.commands 0 φ.lines i no_line g.well_read.lines_well_read within);
     commands_are = g.held.commands_are;
     steps_are = g.held.steps_are;
-    head_is = entry_of head_code 1024 before.heads φ.lines i no_line g.held.heads_are within;
-    args_are = entry_of (λ x. args_code (args_of_line x)) 1024 before.arguments φ.lines i no_line g.held.arguments_are within;
+    head_is = entry_of head_code 1024 φ.lines g.held.heads_are within no_line;
+    args_are = entry_of (λ x. args_code (args_of_line x)) 1024 φ.lines g.held.arguments_are within no_line;
   }
 
   pub line_ready : LineReady t outcomes before.commands before.steps (get_or before.heads i 0) (get_or before.arguments i 0)
@@ -294,10 +284,6 @@ line_over s i (full n σ) f t h =
     record { carries = h.carries; ends = λ rest. ap (λ k. record { session = s; ending = k; place = i }) number_is }
 
 -- ---- the state after one more line
-
-map_snoc : {A : Type 0} (f : A → ℕ) (xs : List A) (x : A) → map f (xs ++ x ∷ []) ≡ map f xs ++ f x ∷ []
-map_snoc f [] x = refl
-map_snoc f (y ∷ ys) x = ap (λ r. f y ∷ r) (map_snoc f ys x)
 
 -- the number of a finished line, as the code makes it
 number_is : (o : Outcome) (σ : State) (before : List Finished) (row : Option ℕ) (keys : ℕ) (b : Bool) → RowIs σ.world.rows o row
@@ -411,7 +397,7 @@ module _ {φ : File} {before : Tables} {t : Token} {hand : List Bool} {outcomes 
         ∙ ap (λ t. set t i (outcome_number row t'.used.keys b)) at.finishing.codes_are
         ∙ ap (λ x. set (padded 1024 (map outcome_code fs)) i x) code_is
         ∙ set_next 1024 (map outcome_code fs) (outcome_code line) (omega (arith, few_lines)) i here
-        ∙ ap (padded 1024) (sym (map_snoc outcome_code fs line))
+        ∙ ap (padded 1024) (sym (map-append outcome_code fs (line ∷ [])))
 
     one_more : length (fs ++ line ∷ []) ≡ i + 1
     one_more = length-append fs (line ∷ []) ∙ omega (arith, at.finished_count)
@@ -439,18 +425,13 @@ module _ {φ : File} {before : Tables} {t : Token} {hand : List Bool} {outcomes 
 
 -- ---- the end
 
-any_default : (fs : List Finished) (i : ℕ) (d e : Finished) → i < length fs → get_or fs i d ≡ get_or fs i e
-any_default [] i d e l = absurd (omega arith)
-any_default (f ∷ fs) zero d e l = refl
-any_default (f ∷ fs) (suc i) d e l = any_default fs i d e (omega arith)
-
 -- a finished line's row and count of keys fit two bytes
 line_fits : {φ : File} {t : Token} {hand : List Bool} {outcomes : List ℕ} {i : ℕ} {first : Option ℕ} (at : At φ t hand outcomes i first)
     → length at.session.state.world.rows ≤ 4096 → (j : ℕ) (d : Finished) → j < length at.session.finished
     → ((get_or at.session.finished j d).row < 65536) × ((get_or at.session.finished j d).keys < 65536)
 line_fits at few j d l =
     let fs = at.session.finished in
-    let same : get_or fs j d ≡ finished_at fs j = any_default fs j d _ l in
+    let same : get_or fs j d ≡ finished_at fs j = get_or_default fs j d _ l in
     rw same (
       row_fits at.session.state.world.rows (finished_at fs j).outcome (finished_at fs j).row few (at.finishing.rowed j l),
       omega (arith, at.finishing.keys_small j l),

@@ -93,6 +93,18 @@ pub struct Session {
     pub finished: usize,
 }
 
+impl Session {
+    fn new(ending: Option<Ending>, first_breach: Option<usize>, finished: usize) -> Session
+        ensures { result ≡ record { ran = record { ending = ending; first_breach = first_breach }; finished = finished } }
+    {
+        let ran = Ran {
+            ending,
+            first_breach,
+        };
+        Session { ran, finished }
+    }
+}
+
 // The lines of a file from the empty token, into tables that hold the file and are zero otherwise.
 pub fn run_session(tables: Tables<'_>, m: usize) -> Session
     requires { SessionReady (lent tables) m }
@@ -125,36 +137,15 @@ pub fn run_session(tables: Tables<'_>, m: usize) -> Session
     let mut first_breach = None;
     for i in 0..m {
         let earlier = token.used;
-        let outcome = run_line(
-            &mut token,
-            outcomes,
-            commands,
-            steps,
-            heads[i],
-            arguments[i],
-        );
+        let (head, args) = (heads[i], arguments[i]);
+        let outcome = run_line(&mut token, outcomes, commands, steps, head, args);
         match settle(&mut token, earlier, outcome) {
-            Err(full) => {
-                let ending = Some(Ending { full, line: i });
-                return Session {
-                    ran: Ran {
-                        ending,
-                        first_breach,
-                    },
-                    finished: i,
-                };
-            }
+            Err(full) => return Session::new(Some(Ending { full, line: i }), first_breach, i),
             Ok(row) => {
                 let mark = finish_line(&token, &mut hand, outcomes, i, row);
                 first_breach = first_breach.or(mark.then_some(i));
             }
         }
     }
-    Session {
-        ran: Ran {
-            ending: None,
-            first_breach,
-        },
-        finished: m,
-    }
+    Session::new(None, first_breach, m)
 }

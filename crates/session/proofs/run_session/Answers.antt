@@ -39,10 +39,11 @@ pub returns-in-Err-clause-ran : goal.returns-in-Err-clause-ran
 returns-in-Err-clause-ran c =
     let line = c.run_line-outcome in
     let settled = c.settle in
-    running_over c.requires c.loop-i.invariant c.loop-i-test.true refl _ line.new.token line.ensures.performs settled.new.token
+    rw c.new.ensures
+    (running_over c.requires c.loop-i.invariant c.loop-i-test.true refl _ line.new.token line.ensures.performs settled.new.token
     (same_tables_trans c.loop-i.token line.new.token settled.new.token line.ensures.same_tables settled.ensures.same_tables)
     c.in-Err.ensures.settled
-    (record { rows = search rules; keys = search rules; outcomes_are = refl })
+    (record { rows = search rules; keys = search rules; outcomes_are = refl }))
 
 pub loop-i-preserved : goal.loop-i-preserved
 loop-i-preserved c =
@@ -56,5 +57,6 @@ loop-i-preserved c =
 
 pub returns-clause-ran : goal.returns-clause-ran
 returns-clause-ran c =
-    running_end c.requires c.loop-i.invariant c.loop-i-test.false c.loop-i.auto.i-end
-    (record { rows = search rules; keys = search rules; outcomes_are = refl })
+    rw c.new-2.ensures
+    (running_end c.requires c.loop-i.invariant c.loop-i-test.false c.loop-i.auto.i-end
+    (record { rows = search rules; keys = search rules; outcomes_are = refl }))
