@@ -1,3 +1,2 @@
--- The laws that the entries' proofs cite, and that each promise allows one result only.
-pub mod Telling
+-- That each promise allows one result only.
 pub mod Unique

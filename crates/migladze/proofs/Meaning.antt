@@ -8,8 +8,7 @@ use Rattle.model.specs.Value.{Value}
 use Rattle.model.specs.Frame.{File}
 use Rattle.model.specs.File.{file}
 use Rattle.model.specs.Report.{run_of}
-use Rattle.model.specs.Tables.{Tables, read_into, tables_run, RunIs}
-use Rattle.model.specs.Tables.{RunAnswer}
+use Rattle.model.specs.Tables.{Tables, RunAnswer, read_into, tables_run, RunIs}
 use Rattle.values.specs.Holds.{Holds}
 use Rattle.values.proofs.Held.{holds_padded, holds_one_list}
 

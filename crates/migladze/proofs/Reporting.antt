@@ -1,51 +1,48 @@
 -- What is printed for an input is the model's answer: its numbers fit their bytes, and the printed parts are the answer's parts.
 -- Assumes nothing.
-use Prim.Native.Nat.{ℕ, ◌-◌, ◌≤◌, ◌<◌}
-use mathlib.Core.Path.{◌≡◌, sym, ap, ◌∙◌}
-use mathlib.Core.Bool.{Bool, true, false, cond}
-use mathlib.Core.List.{List}
-use native.Mathlib.Omega.{arith}
-use lib.Dec.{ltb}
-use lib.ListN.{length, length-append}
+use Rattle.std.proofs.Common.{ℕ, ◌≤◌, ◌<◌, ◌≡◌, sym, ap, ◌∙◌, Bool, true, false, cond, List, map, length, take, ltb, Err, arith}
+use Rattle.std.proofs.lemmas.List.{length-map}
 use lib.Dec.{ltb→lt}
 use Rattle.model.specs.Basics.{index_by}
-use Rattle.model.specs.Typing.{verdict}
+use Rattle.model.specs.Typing.{Verdict, verdict}
 use Rattle.model.specs.Session.{Finished}
 use Rattle.model.specs.Text.{written}
 use Rattle.model.specs.File.{refused, parse}
-use Rattle.model.specs.Report.{refusal_frame, run_of, first_breach, program_room, answer_to}
-use Rattle.model.specs.Tables.{zeros, padded, ReportIs, Tables, right_lengths, read_into, ReadIs, Reported, report_size}
-use Rattle.model.specs.Tables.{ReadAnswer}
-use Rattle.model.specs.Tables as read
-use Rattle.model.specs.Typing.{Verdict}
-use Rattle.model.proofs.Fits.{verdict_fits, ending_fits, refusal_fits}
+use Rattle.model.specs.Report.{refusal_frame, run_of, first_breach, answer_to}
+use Rattle.model.specs.Tables.{outcome_code, Tables, right_lengths, read_into, ReadIs, ReportIs, Reported, report_size}
+use Rattle.model.specs.Numbers.{fault_number}
+use Rattle.model.specs.Told.{read_told, ending_number, breach_told}
+use Rattle.model.specs.declared.Refusal.{Refusal}
+use Rattle.model.specs.declared.Contents.{Contents}
+use Rattle.model.proofs.Fits.{verdict_fits, refusal_fits}
 use Rattle.printing.specs.Printed.{Printed, VerdictFits, Lines, report_bytes}
-use Rattle.session.specs.Sessioned.{RanIs}
-use Rattle.session.specs.declared.Ran.{Ran}
-use Rattle.migladze.proofs.Taken.{refused_answer, TakenFile}
-use Rattle.migladze.proofs.Running.{refusal_run, left_by_run, file_run}
+use Rattle.values.proofs.Padded.{length_padded, take_padded}
+use Rattle.session.specs.Sessioned.{RanIs, FileKept}
+use Rattle.session.specs.declared.Session.{Session}
+use Rattle.migladze.proofs.Taken.{refusal_read, TakenFile}
+use Rattle.migladze.proofs.Running.{refusal_run, file_run}
+
+pub report_made : {input space buffer : List ℕ} {lent left : Tables} {count : ℕ} → length space ≡ report_size
+    → Reported input lent count left buffer → ReportIs input lent space count left buffer
+report_made size made = record { right_size = λ _. made; wrong_size = λ other. absurd (other size) }
 
 -- ---- a refusal
 
-pub refusal_in_bytes : (input : List ℕ) (lent left : Tables) (r : ReadAnswer) (n k : ℕ) → ReadIs input lent r left → r ≡ read.Refused n k
-    → (n < 256) × (k < 65536)
-unfolding read_into
-refusal_in_bytes input lent left r n k h e =
-    go (right_lengths lent) (refused_answer (read_into lent input) n k (sym e ∙ h.answer))
-  where
-    go : (b : Bool) → cond b (parse input) (refused 15 0) ≡ refused n k → (n < 256) × (k < 65536)
-    go true q = refusal_fits input n k q
-    go false q =
-        let number_is : 15 ≡ n = cc in
-        let place_is : 0 ≡ k = cc in
-        (omega arith, omega arith)
+module _ {input : List ℕ} {lent left : Tables} (r : Refusal) (h : ReadIs input lent (read_told (Err r)) left) where
+  pub refusal_in_bytes : r.frame < 65536
+  unfolding read_into
+  refusal_in_bytes = go (right_lengths lent) (refusal_read r h)
+    where
+      go : (b : Bool) → cond b (parse input) (refused 15 0) ≡ refused (fault_number r.fault) r.frame → r.frame < 65536
+      go true q = (refusal_fits input (fault_number r.fault) r.frame q).1
+      go false q = let place_is : 0 ≡ r.frame = cc in omega arith
 
-pub refusal_reported : (input : List ℕ) (lent left : Tables) (r : ReadAnswer) (n k size count : ℕ) (buffer : List ℕ) → ReadIs input lent r left
-    → r ≡ read.Refused n k → size ≡ report_size → Printed (written (refusal_frame n k)) size count buffer → Reported input lent count left buffer
-unfolding answer_to
-refusal_reported input lent left r n k size count buffer h e whole p =
-    let q : read_into lent input ≡ refused n k = refused_answer (read_into lent input) n k (sym e ∙ h.answer) in
-    record { count = rw q p.count; buffer_is = rw (q, ← whole) p.buffer_is; tables = (refusal_run input lent left r n k h e).tables }
+  pub refusal_reported : {size count : ℕ} {buffer : List ℕ} → size ≡ report_size
+      → Printed (written (refusal_frame (fault_number r.fault) r.frame)) size count buffer → Reported input lent count left buffer
+  unfolding answer_to
+  refusal_reported whole p =
+      let q = refusal_read r h in
+      record { count = rw q p.count; buffer_is = rw (q, ← whole) p.buffer_is; tables = (refusal_run r h).tables }
 
 -- ---- a file
 
@@ -56,50 +53,51 @@ first_in_bytes fs few = go (ltb (index_by (λ f. f.breach) fs) (length fs)) (λ 
     go true below = let l = below tt in omega arith
     go false below = omega arith
 
-module _ {input : List ℕ} {lent left : Tables} {t a n m : ℕ} (f : TakenFile input lent left t a n m) where
+module _ {input : List ℕ} {lent left : Tables} {c : Contents} (f : TakenFile input lent left c) where
   pub verdict_in_bytes : {v : Verdict} → v ≡ verdict f.φ.policy f.φ.commands → VerdictFits v
   verdict_in_bytes e =
       let small = verdict_fits f.φ.policy f.φ.commands f.well_read.few_commands f.well_read.commands_read in
-      rw e (record { number_fits = small.number_fits; frame_fits = small.frame_fits; step_fits = small.step_fits })
+      rw e (record { frame_fits = small.frame_fits; step_fits = small.step_fits })
 
-  module _ {r : Ran} {rows keys outcomes : List ℕ} (h : RanIs (run_of f.φ) r rows keys outcomes) where
-    pub lines_to_print : Lines (run_of f.φ).session.finished outcomes r.finished
+  module _ (s : Session) {after : Tables} (h : RanIs (run_of f.φ) s after) where
+    abbrev codes : List ℕ
+    codes = map outcome_code (run_of f.φ).session.finished
+
+    codes_long : length codes ≡ s.finished
+    codes_long = simp length-map (sym h.finished_is)
+
+    pub finished_in_table : s.finished ≤ length after.outcomes
+    finished_in_table =
+        let few = h.few_lines in
+        let long = ap length h.outcomes_are ∙ length_padded 1024 codes (omega (arith, codes_long, h.finished_is)) in
+        omega (arith, h.finished_is)
+
+    codes_printed : take s.finished after.outcomes ≡ codes
+    codes_printed = ap (take s.finished) h.outcomes_are ∙ take_padded 1024 codes s.finished codes_long
+
+    pub few_printed : length (take s.finished after.outcomes) ≤ 1024
+    few_printed = let few = h.few_lines in omega (arith, ap length codes_printed, codes_long, h.finished_is)
+
+    pub lines_to_print : Lines (run_of f.φ).session.finished (take s.finished after.outcomes)
     lines_to_print = record {
-      codes_are = h.outcomes_are;
-      count_is = h.finished_is;
-      few = h.few_lines;
+      codes_are = codes_printed;
       rows_fit = λ i l. (h.lines_fit i _ l).0;
       keys_fit = λ i l. (h.lines_fit i _ l).1;
     }
 
-    pub few_finished : r.finished ≤ 1024
-    few_finished = rw h.finished_is h.few_lines
-
-    pub ending_in_bytes : r.ending < 256
-    ending_in_bytes = rw h.ending_is (ending_fits program_room f.φ.commands f.φ.lines)
-
-    pub breach_in_bytes : r.first < 65536
+    pub breach_in_bytes : breach_told s.ran.first_breach < 65536
     breach_in_bytes = rw h.first_is (first_in_bytes (run_of f.φ).session.finished h.few_lines)
 
-    pub file_reported : {v : Verdict} {size count : ℕ} {buffer : List ℕ} → v ≡ verdict f.φ.policy f.φ.commands
-        → size ≡ report_size → Printed (report_bytes v (run_of f.φ).session.finished r.ending r.first) size count buffer
-        → Reported input lent count (left_by_run f h) buffer
+    abbrev printed_for : Verdict → List ℕ
+    printed_for v = report_bytes v (run_of f.φ).session.finished (ending_number s.ran.ending) (breach_told s.ran.first_breach)
+
+    pub file_reported : FileKept left after → {v : Verdict} {size count : ℕ} {buffer : List ℕ} → v ≡ verdict f.φ.policy f.φ.commands
+        → size ≡ report_size → Printed (printed_for v) size count buffer → Reported input lent count after buffer
     unfolding answer_to
-    file_reported e whole p =
+    file_reported kept e whole p =
         let q = rw (e, h.ending_is, h.first_is) at p in
         record {
           count = rw f.read_is q.count;
           buffer_is = rw (f.read_is, ← whole) q.buffer_is;
-          tables = (file_run f h).tables;
+          tables = (file_run f s h kept).tables;
         }
-
--- ---- what was printed lies in the buffer
-
-pub report_within : {input space buffer : List ℕ} {lent left : Tables} {r : ℕ} → ReportIs input lent space r left buffer
-    → length space ≡ report_size → length buffer ≡ length space → r ≤ report_size
-unfolding padded
-report_within {input} {lent = lent} h size kept =
-    let made = h.right_size size in
-    let bytes = answer_to (read_into lent input) in
-    let long = ap length made.buffer_is ∙ length-append bytes (zeros (report_size - length bytes)) in
-    omega (arith, made.count, long)

@@ -2,125 +2,109 @@
 // None has a requirement; what each promises is a record of the crate model (specs/Tables.antt).
 #![tactic(auto)]
 
-ghost use Rattle.std.specs.Prelude.{◌≡◌, length};
-ghost use Rattle.model.specs.Tables.{zeros, ReadIs, VerdictIs, RunIs, ReportIs};
+ghost use Rattle.std.specs.Prelude.{◌≡◌, ◌↔◌};
+ghost use Rattle.model.specs.Tables.{read_into, read_answer, ReadIs, VerdictIs, RunIs, ReportIs};
+ghost use Rattle.model.specs.Told.{lent, left, read_told, verdict_told, run_told};
+ghost use Rattle.model.specs.declared.Refusal.{Refusal};
+ghost use Rattle.model.specs.declared.Rejection.TheVariants as rejection;
 
-use model::{ReadAnswer, RunAnswer, Verdict};
+use model::{Contents, Ran, Refusal, Rejection, Tables};
+
+// The bytes that the longest report takes: a verdict, 1,024 lines and an end.
+pub const REPORT_SIZE: usize = 19476;
+
+// The tables again as one, lent to a call: they come back when it returns.
+macro_rules! lend {
+    ($($table:ident),*) => {
+        Tables { $($table: &mut *$table),* }
+    };
+}
 
 // Reads an input into the tables, or refuses it and leaves them zero.
-pub fn read(
-    input: &[u8],
-    rows: &mut [u64],
-    keys: &mut [u64],
-    heads: &mut [u64],
-    arguments: &mut [u64],
-    outcomes: &mut [u64],
-    commands: &mut [u64],
-    steps: &mut [u64],
-) -> ReadAnswer
-    ensures { ReadIs input.now (record { rows = rows.old; keys = keys.old; heads = heads.old; arguments = arguments.old; outcomes = outcomes.old; commands = commands.old; steps = steps.old }) result (record { rows = rows.new; keys = keys.new; heads = heads.new; arguments = arguments.new; outcomes = outcomes.new; commands = commands.new; steps = steps.new }) }
+pub fn read(input: &[u8], tables: Tables<'_>) -> Result<Contents, Refusal>
+    ensures { ReadIs input.now (lent tables.entry) (read_told result) (left tables.exit) }
 {
-    file::read_tables(
-        input, rows, keys, heads, arguments, outcomes, commands, steps,
-    )
+    let Tables {
+        rows,
+        keys,
+        heads,
+        arguments,
+        outcomes,
+        commands,
+        steps,
+    } = tables;
+    let tables = lend!(rows, keys, heads, arguments, outcomes, commands, steps);
+    // Kept: a call in the place of the answer lends the tables beyond the body, where what it leaves in them is not known.
+    let read = file::read_tables(input, tables);
+    read
 }
 
 // The verdict of an input by the typing rules; the tables are left as reading leaves them.
-pub fn verdict(
-    input: &[u8],
-    rows: &mut [u64],
-    keys: &mut [u64],
-    heads: &mut [u64],
-    arguments: &mut [u64],
-    outcomes: &mut [u64],
-    commands: &mut [u64],
-    steps: &mut [u64],
-) -> Verdict
-    ensures { VerdictIs input.now (record { rows = rows.old; keys = keys.old; heads = heads.old; arguments = arguments.old; outcomes = outcomes.old; commands = commands.old; steps = steps.old }) result (record { rows = rows.new; keys = keys.new; heads = heads.new; arguments = arguments.new; outcomes = outcomes.new; commands = commands.new; steps = steps.new }) }
+pub fn verdict(input: &[u8], tables: Tables<'_>) -> Result<(), Rejection>
+    ensures answer { VerdictIs input.now (lent tables.entry) (verdict_told result) (left tables.exit) }
+    ensures refused { (r : Refusal) → (result ≡ Err (rejection.Refused r))
+        ↔ (read_told (Err r) ≡ read_answer (read_into (lent tables.entry) input.now)) }
 {
-    let answer = file::read_tables(
-        input, rows, keys, heads, arguments, outcomes, commands, steps,
-    );
-    match answer {
-        ReadAnswer::Refused(number, frame) => Verdict {
-            number,
-            frame,
-            step: 0,
-        },
-        ReadAnswer::Taken(transported, allowing, n, _) => {
-            typing::judge(transported, allowing, n, commands, steps)
-        }
-    }
+    let Tables {
+        rows,
+        keys,
+        heads,
+        arguments,
+        outcomes,
+        commands,
+        steps,
+    } = tables;
+    let tables = lend!(rows, keys, heads, arguments, outcomes, commands, steps);
+    let contents = file::read_tables(input, tables)?;
+    typing::judge(contents.policy, contents.commands, commands, steps)?;
+    Ok(())
 }
 
-// The run of an input's session on the symbolic token; the tables of rows, stored keys and outcomes are left as after the last finished line.
-pub fn run(
-    input: &[u8],
-    rows: &mut [u64],
-    keys: &mut [u64],
-    heads: &mut [u64],
-    arguments: &mut [u64],
-    outcomes: &mut [u64],
-    commands: &mut [u64],
-    steps: &mut [u64],
-) -> RunAnswer
-    ensures { RunIs input.now (record { rows = rows.old; keys = keys.old; heads = heads.old; arguments = arguments.old; outcomes = outcomes.old; commands = commands.old; steps = steps.old }) result (record { rows = rows.new; keys = keys.new; heads = heads.new; arguments = arguments.new; outcomes = outcomes.new; commands = commands.new; steps = steps.new }) }
+// The run of an input's session on the symbolic token; the tables of rows, stored keys and outcomes are left as after the last
+// finished line.
+pub fn run(input: &[u8], tables: Tables<'_>) -> Result<Ran, Refusal>
+    ensures { RunIs input.now (lent tables.entry) (run_told result) (left tables.exit) }
 {
-    let answer = file::read_tables(
-        input, rows, keys, heads, arguments, outcomes, commands, steps,
-    );
-    match answer {
-        ReadAnswer::Refused(number, frame) => RunAnswer::Refused(number, frame),
-        ReadAnswer::Taken(_, _, _, m) => {
-            let ran = session::run_session(
-                rows, keys, heads, arguments, outcomes, commands, steps, m,
-            );
-            RunAnswer::Ended(ran.ending, ran.place, ran.first)
-        }
-    }
+    let Tables {
+        rows,
+        keys,
+        heads,
+        arguments,
+        outcomes,
+        commands,
+        steps,
+    } = tables;
+    let tables = lend!(rows, keys, heads, arguments, outcomes, commands, steps);
+    let lines = file::read_tables(input, tables)?.lines;
+    let tables = lend!(rows, keys, heads, arguments, outcomes, commands, steps);
+    Ok(session::run_session(tables, lines).ran)
 }
 
-fn clear_buffer(buffer: &mut [u8])
-    ensures { buffer.new ≡ zeros (length buffer.old) }
-{
-    let mut i: usize = 0;
-    while i < buffer.len() {
-        buffer[i] = 0;
-        i += 1;
-    }
-}
-
-// The program's whole output for an input, at the front of a buffer of 19,476 bytes; the answer is how many bytes it takes.
+// The program's whole output for an input, at the front of a buffer of REPORT_SIZE bytes; the answer is how many bytes it takes.
 // A buffer of another size takes nothing.
-pub fn report(
-    input: &[u8],
-    rows: &mut [u64],
-    keys: &mut [u64],
-    heads: &mut [u64],
-    arguments: &mut [u64],
-    outcomes: &mut [u64],
-    commands: &mut [u64],
-    steps: &mut [u64],
-    buffer: &mut [u8],
-) -> usize
-    ensures { ReportIs input.now (record { rows = rows.old; keys = keys.old; heads = heads.old; arguments = arguments.old; outcomes = outcomes.old; commands = commands.old; steps = steps.old }) buffer.old result (record { rows = rows.new; keys = keys.new; heads = heads.new; arguments = arguments.new; outcomes = outcomes.new; commands = commands.new; steps = steps.new }) buffer.new }
+pub fn report(input: &[u8], tables: Tables<'_>, buffer: &mut [u8]) -> usize
+    ensures { ReportIs input.now (lent tables.entry) buffer.old result (left tables.exit) buffer.new }
 {
-    if buffer.len() != 19476 {
+    if buffer.len() != REPORT_SIZE {
         return 0;
     }
-    clear_buffer(buffer);
-    let answer = file::read_tables(
-        input, rows, keys, heads, arguments, outcomes, commands, steps,
-    );
-    match answer {
-        ReadAnswer::Refused(number, frame) => printing::print_refusal(buffer, number, frame),
-        ReadAnswer::Taken(transported, allowing, n, m) => {
-            let v = typing::judge(transported, allowing, n, commands, steps);
-            let ran = session::run_session(
-                rows, keys, heads, arguments, outcomes, commands, steps, m,
-            );
-            let finished = ran.finished;
-            printing::print_report(buffer, v, outcomes, finished, ran.ending, ran.first)
-        }
-    }
+    buffer.fill(0);
+    let Tables {
+        rows,
+        keys,
+        heads,
+        arguments,
+        outcomes,
+        commands,
+        steps,
+    } = tables;
+    let tables = lend!(rows, keys, heads, arguments, outcomes, commands, steps);
+    let contents = match file::read_tables(input, tables) {
+        Ok(contents) => contents,
+        Err(refusal) => return printing::print_refusal(buffer, refusal),
+    };
+    let judged = typing::judge(contents.policy, contents.commands, commands, steps);
+    let tables = lend!(rows, keys, heads, arguments, outcomes, commands, steps);
+    let session = session::run_session(tables, contents.lines);
+    printing::print_report(buffer, judged, &outcomes[..session.finished], session.ran)
 }

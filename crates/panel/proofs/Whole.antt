@@ -1,12 +1,13 @@
--- What is written for the bytes that were read is the report of the whole input: of a longer one the first 32,769 bytes say that it is too long.
+-- What is written for the bytes that were read is the report of the whole input: of a longer one the first 32,769 bytes say that
+-- it is too long.
 -- Assumes nothing.
-use Rattle.std.proofs.Common.{ℕ, ◌≤◌, ◌<◌, ◌≡◌, ◌∙◌, sym, ap, subst, refl, true, List, [], ◌++◌, length, take, append-nil, None, Some, IfSome, OnOk, Result, Ok, Err, arith}
+use Rattle.std.proofs.Common.{ℕ, ◌-◌, ◌≤◌, ◌<◌, ◌≡◌, ◌∙◌, sym, ap, subst, refl, true, List, [], ◌++◌, length, take, append-nil, arith}
+use Rattle.std.proofs.Common.{None, Some, IfSome, OnOk, Result, Ok, Err}
 use Rattle.std.proofs.lemmas.Bool.{lt-leb}
 use Rattle.std.proofs.lemmas.List.{length-append, length-replicate, take_at}
 use Rattle.std.proofs.Math.Decide.{dec_le}
 use Rattle.std.specs.Io.KnownBytes.{Appends, Consumes, IsAtEnd}
 use Rattle.std.specs.declared.option.Option.{Option}
-use Rattle.migladze.proofs.Reporting.{report_within}
 use Rattle.model.specs.File.{parse, refused}
 use Rattle.model.specs.Report.{answer, answer_to}
 use Rattle.model.specs.Tables.{Tables, right_lengths, read_into, zeros, padded, report_size, ReportIs}
@@ -26,8 +27,8 @@ same_answer read rest ends = go (dec_le (length read) 32768)
         ap answer_to (too_long (read ++ rest) (omega (arith, long)) ∙ sym (too_long read (omega arith)))
 
 -- what a reader had, what was read of it, and what was written for that
-pub report_of_all : {A E : Type 0} (r : Result A E) (had left held written : Option (List ℕ)) (read points : List ℕ) → Consumes had left read
-    → (length read < 32769 → IsAtEnd left) → points ≡ answer read → OnOk r (Appends held written points)
+pub report_of_all : {A E : Type 0} (r : Result A E) (had left held written : Option (List ℕ)) (read points : List ℕ)
+    → Consumes had left read → (length read < 32769 → IsAtEnd left) → points ≡ answer read → OnOk r (Appends held written points)
     → OnOk r (IfSome had (λ input. Appends held written (answer input)))
 report_of_all (Err e) had left held written read points given ends made wrote = tt
 report_of_all (Ok x) None left held written read points given ends made wrote = tt
@@ -42,7 +43,12 @@ module _ {input buffer : List ℕ} {lent left : Tables} {count : ℕ} (h : Repor
   size = length-replicate {A = ℕ} report_size 0
 
   pub count_within : length buffer ≡ length (zeros report_size) → count ≤ length buffer
-  count_within kept = omega (arith, report_within h size kept, kept, size)
+  unfolding padded
+  count_within kept =
+      let made = h.right_size size in
+      let bytes = answer_to (read_into lent input) in
+      let long = ap length made.buffer_is ∙ length-append bytes (zeros (report_size - length bytes)) in
+      omega (arith, made.count, long)
 
   pub report_in_front : right_lengths lent ≡ true → take count buffer ≡ answer input
   unfolding padded read_into

@@ -6,6 +6,7 @@ ghost use Rattle.std.specs.Io.{ReadsAtMost};
 ghost use Rattle.std.specs.Io.KnownBytes.{Appends, Consumes, IsAtEnd};
 ghost use Rattle.model.specs.Report.{answer};
 
+use model::Tables;
 use std::io;
 use std::io::{Read, Write};
 
@@ -28,7 +29,8 @@ fn read_full<R: Read>(reader: &mut R, buffer: &mut [u8]) -> io::Result<usize>
 
 // Writes the report of all that there is to read. Where a read fails nothing is written, since the report is of whole inputs only.
 fn write_report<R: Read, W: Write>(reader: &mut R, writer: &mut W) -> io::Result<()>
-    ensures { OnOk result (IfSome (R.remaining reader.old) (λ input. Appends (W.contents writer.old) (W.contents writer.new) (answer input))) }
+    ensures { OnOk result
+        (IfSome (R.remaining reader.old) (λ input. Appends (W.contents writer.old) (W.contents writer.new) (answer input))) }
 {
     let mut rows = [0u64; 4096];
     let mut keys = [0u64; 256];
@@ -37,21 +39,20 @@ fn write_report<R: Read, W: Write>(reader: &mut R, writer: &mut W) -> io::Result
     let mut outcomes = [0u64; 1024];
     let mut commands = [0u64; 32];
     let mut steps = [0u64; 512];
-    let mut points = [0u8; 19476];
+    let mut points = [0u8; migladze::REPORT_SIZE];
     // One byte more than the longest input that is taken, so that a longer one is seen to be too long.
     let mut input = [0u8; 32769];
     let n = read_full(reader, &mut input)?;
-    let count = migladze::report(
-        &input[..n],
-        &mut rows,
-        &mut keys,
-        &mut heads,
-        &mut arguments,
-        &mut outcomes,
-        &mut commands,
-        &mut steps,
-        &mut points,
-    );
+    let tables = Tables {
+        rows: &mut rows,
+        keys: &mut keys,
+        heads: &mut heads,
+        arguments: &mut arguments,
+        outcomes: &mut outcomes,
+        commands: &mut commands,
+        steps: &mut steps,
+    };
+    let count = migladze::report(&input[..n], tables, &mut points);
     writer.write_all(&points[..count])
 }
 

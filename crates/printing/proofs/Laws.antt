@@ -1,20 +1,21 @@
 -- Laws on bytes that are put into a buffer one after the other, and on the numbers that code outcomes.
 -- Assumes nothing.
-use Prim.Native.Nat.{ℕ, zero, suc, ◌+◌, ◌*◌, ◌-◌, ◌≤◌, ◌<◌, ◌/◌, ◌%◌}
+use Prim.Native.Nat.{ℕ, suc, ◌+◌, ◌*◌, ◌≤◌, ◌<◌, ◌/◌, ◌%◌}
 use mathlib.Core.Path.{◌≡◌, refl, ◌∙◌, sym, ap}
 use mathlib.Core.Bool.{Bool, true, false, cond}
 use mathlib.Core.List.{List, [], ◌∷◌, ◌++◌, map}
 use native.Mathlib.Omega.{arith}
-use native.Mathlib.Numerals.{add-one, unary_clauses}
+use native.Mathlib.Numerals.{add-one}
 use native.Mathlib.Nat.{add-zero, zero-add}
-use lib.ListN.{length, get_or, set, take, drop, length-append, length-set, length-take, length-map, drop_of_length-le}
-use lib.Seq.{sets, length-sets, sets-eq, drop-cons, take_at}
+use lib.ListN.{length, get_or, set, drop, length-append, length-set, drop_of_length-le}
+use lib.Seq.{sets, length-sets, sets-eq, drop-cons}
+use Rattle.std.proofs.lemmas.List.{drop-replicate}
 use Rattle.model.specs.Session.{Outcome, value, none, Finished}
 use Rattle.model.specs.Text.{digits, written}
-use Rattle.model.specs.Report.{refusal_frame, stopped_byte, line_frame, line_frames}
+use Rattle.model.specs.Report.{refusal_frame, verdict_frame, stopped_byte, line_frame, line_frames}
 use Rattle.model.specs.Tables.{padded, zeros, outcome_code}
 use Rattle.model.specs.Typing.{Verdict}
-use Rattle.printing.specs.Printed.{Printed, Lines, report_bytes}
+use Rattle.printing.specs.Printed.{Printed, Lines, end_bytes, report_bytes}
 use Rattle.printing.specs.Placed.{Put, coded_frame, coded_frames}
 
 -- ---- bytes that are put
@@ -35,16 +36,11 @@ put_then_put {xs} {ys} {before} {at = at} p q = record {
   buffer_is = rw (q.buffer_is, p.buffer_is, p.next) (sym (sets_append before at xs ys));
 }
 
-drop_zeros : (k n : ℕ) → drop k (zeros n) ≡ zeros (n - k)
-drop_zeros zero n = simp unary_clauses
-drop_zeros (suc k) zero = let nothing : 0 - suc k ≡ 0 = omega arith in rw nothing
-drop_zeros (suc k) (suc n) = simp unary_clauses (drop_zeros k n)
-
 put_on_zeros : {bytes before after : List ℕ} {r : ℕ} → before ≡ zeros (length before) → length bytes ≤ length before
     → Put bytes 0 before r after → Printed bytes (length before) r after
 unfolding padded
 put_on_zeros {bytes} {before} empty fits p =
-    let rest_is = ap (drop (length bytes)) empty ∙ drop_zeros (length bytes) (length before) in
+    let rest_is = ap (drop (length bytes)) empty ∙ drop-replicate (length bytes) (length before) 0 in
     record {
       count = omega arith;
       buffer_is = p.buffer_is ∙ sets-eq bytes before 0 (omega arith) ∙ rw (zero-add, rest_is);
@@ -57,7 +53,8 @@ unfolding written
 written_length [] = refl
 written_length (b ∷ bs) = let later = written_length bs in omega arith
 
-pub frame_ends : (frame : List ℕ) {before after : List ℕ} {at r : ℕ} → Put (written frame) at before r after → r ≡ at + (2 * length frame + 1)
+pub frame_ends : (frame : List ℕ) {before after : List ℕ} {at r : ℕ} → Put (written frame) at before r after
+    → r ≡ at + (2 * length frame + 1)
 frame_ends frame p = omega (arith, written_length frame)
 
 -- i bytes of the frame are written: to write the others from the place on gives the whole
@@ -66,9 +63,6 @@ pub record Writing (frame : List ℕ) (at : ℕ) (before buffer : List ℕ) (pla
   pub place_is : place ≡ at + 2 * i
   pub as_long : length buffer ≡ length before
   pub rest : sets buffer place (written (drop i frame)) ≡ sets before at (written frame)
-
-pub writing_starts : {frame before : List ℕ} {at : ℕ} → Writing frame at before before at 0
-writing_starts = record { within = omega arith; place_is = omega arith; as_long = refl; rest = refl }
 
 pub writing_goes_on : {frame before buffer : List ℕ} {at place i h l : ℕ} → Writing frame at before buffer place i → i < length frame
     → h ≡ get_or digits (get_or frame i 0 / 16) 0 → l ≡ get_or digits (get_or frame i 0 % 16) 0
@@ -93,15 +87,6 @@ writing_ends {frame} w done = record {
 
 -- ---- the lines
 
--- the bytes of a line's array are those of its frame
-pub line_put : {before after : List ℕ} {at r hᵢ lᵢ s hᵣ lᵣ hₖ lₖ b : ℕ} (i code : ℕ)
-    → Put (written (0x82 ∷ hᵢ ∷ lᵢ ∷ s ∷ hᵣ ∷ lᵣ ∷ hₖ ∷ lₖ ∷ b ∷ [])) at before r after
-    → hᵢ ≡ i / 256 % 256 → lᵢ ≡ i % 256 → s ≡ code / 4294967296 % 2
-    → hᵣ ≡ code % 65536 / 256 % 256 → lᵣ ≡ code % 65536 % 256
-    → hₖ ≡ code / 65536 % 65536 / 256 % 256 → lₖ ≡ code / 65536 % 65536 % 256 → b ≡ code / 8589934592 % 2
-    → Put (written (coded_frame i code)) at before r after
-line_put i code p e₁ e₂ e₃ e₄ e₅ e₆ e₇ e₈ = rw (e₁, e₂, e₃, e₄, e₅, e₆, e₇, e₈) at p
-
 frame_length : (i code : ℕ) → length (written (coded_frame i code)) ≡ 19
 unfolding written
 frame_length i code = refl
@@ -113,8 +98,9 @@ frames_length i (code ∷ codes) =
     let later = frames_length (suc i) codes in
     simp (length-append, frame_length) (omega arith)
 
-pub lines_end : (n : ℕ) (outcomes : List ℕ) {before after : List ℕ} {at r : ℕ} → Put (coded_frames 0 (take n outcomes)) at before r after → r ≤ at + 19 * n
-lines_end n outcomes p = omega (arith, frames_length 0 (take n outcomes), length-take n outcomes)
+pub lines_end : (codes : List ℕ) {before after : List ℕ} {at r : ℕ} → Put (coded_frames 0 codes) at before r after
+    → r ≡ at + 19 * length codes
+lines_end codes p = omega (arith, frames_length 0 codes)
 
 -- the first i lines are put: to put the others from the place on gives the whole
 pub record Putting (codes : List ℕ) (at : ℕ) (before buffer : List ℕ) (place i : ℕ) : Type 0 where
@@ -123,19 +109,17 @@ pub record Putting (codes : List ℕ) (at : ℕ) (before buffer : List ℕ) (pla
   pub as_long : length buffer ≡ length before
   pub rest : sets buffer place (coded_frames i (drop i codes)) ≡ sets before at (coded_frames 0 codes)
 
-pub putting_starts : {codes before : List ℕ} {at : ℕ} → Putting codes at before before at 0
-putting_starts = record { within = omega arith; place_is = omega arith; as_long = refl; rest = refl }
-
-pub putting_goes_on : {codes before buffer after : List ℕ} {at place i r : ℕ} → Putting codes at before buffer place i → i < length codes
-    → Put (written (coded_frame i (get_or codes i 0))) place buffer r after
+pub putting_goes_on : {codes before buffer after bytes : List ℕ} {at place i r : ℕ} → Putting codes at before buffer place i
+    → i < length codes → bytes ≡ coded_frame i (get_or codes i 0) → Put (written bytes) place buffer r after
     → Putting codes at before after r (i + 1)
 unfolding coded_frames
-putting_goes_on {codes} {i = i} w more p =
+putting_goes_on {codes} {i = i} w more e p =
+    let q = rw e at p in
     record {
       within = omega arith;
       place_is = omega (arith, frame_length i (get_or codes i 0));
-      as_long = put_keeps_length p ∙ w.as_long;
-      rest = rw (p.buffer_is, p.next, add-one i, ← sets_append) (rw (drop-cons codes i 0 more) at w.rest);
+      as_long = put_keeps_length q ∙ w.as_long;
+      rest = rw (q.buffer_is, q.next, add-one i, ← sets_append) (rw (drop-cons codes i 0 more) at w.rest);
     }
 
 pub putting_ends : {codes before buffer : List ℕ} {at place i : ℕ} → Putting codes at before buffer place i → length codes ≤ i
@@ -157,7 +141,12 @@ record Parts (row keys stopped mark code : ℕ) : Type 0 where
 
 parts_found : (row keys stopped mark : ℕ) → row < 65536 → keys < 65536 → stopped < 2 → mark < 2
     → Parts row keys stopped mark (row + 65536 * keys + 4294967296 * stopped + 8589934592 * mark + 17179869184)
-parts_found row keys stopped mark r k s m = record { row_is = omega arith; keys_are = omega arith; stopped_is = omega arith; mark_is = omega arith }
+parts_found row keys stopped mark r k s m = record {
+  row_is = omega arith;
+  keys_are = omega arith;
+  stopped_is = omega arith;
+  mark_is = omega arith;
+}
 
 stopped_is_bit : (o : Outcome) → stopped_byte o < 2
 stopped_is_bit (value v) = omega arith
@@ -183,28 +172,22 @@ frames_decoded other i (f ∷ fs) rows keys =
     let later = frames_decoded other (suc i) fs (λ j h. rows (suc j) (omega arith)) (λ j h. keys (suc j) (omega arith)) in
     rw (first, later)
 
-lines_decoded : {fs : List Finished} {outcomes : List ℕ} {n : ℕ} → Lines fs outcomes n → coded_frames 0 (take n outcomes) ≡ line_frames 0 fs
-unfolding padded
-lines_decoded {fs} {outcomes} {n} l =
-    let codes = map outcome_code fs in
-    let codes_first = take_at codes (zeros (1024 - length codes)) n (simp length-map (omega arith)) in
-    rw (l.codes_are, codes_first) (frames_decoded _ 0 fs l.rows_fit l.keys_fit)
+lines_decoded : {fs : List Finished} {codes : List ℕ} → Lines fs codes → coded_frames 0 codes ≡ line_frames 0 fs
+lines_decoded {fs} l = rw l.codes_are (frames_decoded _ 0 fs l.rows_fit l.keys_fit)
 
 -- ---- the whole
 
-pub refusal_printed : {before after : List ℕ} {r high low : ℕ} (number frame : ℕ) → before ≡ zeros (length before) → 9 ≤ length before
-    → Put (written (0x80 ∷ number ∷ high ∷ low ∷ [])) 0 before r after → high ≡ frame / 256 % 256 → low ≡ frame % 256
+pub refusal_printed : {before after bytes : List ℕ} {r : ℕ} (number frame : ℕ) → before ≡ zeros (length before) → 9 ≤ length before
+    → bytes ≡ refusal_frame number frame → Put (written bytes) 0 before r after
     → Printed (written (refusal_frame number frame)) (length before) r after
-refusal_printed number frame empty room p h l = rw (h, l) at (put_on_zeros empty (simp written_length room) p)
+refusal_printed number frame empty room e p = put_on_zeros empty (simp written_length room) (rw e at p)
 
-pub report_printed : {before with_verdict with_lines after outcomes : List ℕ} {n m k r high low high' low' : ℕ} (v : Verdict) (ending first : ℕ)
-    → before ≡ zeros (length before) → 19476 ≤ length before → n ≤ 1024
-    → Put (written (0x81 ∷ v.number ∷ high ∷ low ∷ v.step ∷ [])) 0 before m with_verdict
-    → high ≡ v.frame / 256 % 256 → low ≡ v.frame % 256
-    → Put (coded_frames 0 (take n outcomes)) m with_verdict k with_lines
-    → Put (written (0x83 ∷ ending ∷ high' ∷ low' ∷ [])) k with_lines r after
-    → high' ≡ first / 256 % 256 → low' ≡ first % 256
-    → (fs : List Finished) → Lines fs outcomes n → Printed (report_bytes v fs ending first) (length before) r after
-report_printed v ending first empty room few p h l q s h' l' fs lines =
-    rw (h, l, h', l', lines_decoded lines) at
-    (put_on_zeros empty (simp (length-append, written_length, frames_length, length-take) (omega arith)) (put_then_put (put_then_put p q) s))
+pub report_printed : {before with_verdict with_lines after codes first last : List ℕ} {m k r : ℕ} (v : Verdict) (ending breach : ℕ)
+    → before ≡ zeros (length before) → 19476 ≤ length before → length codes ≤ 1024
+    → first ≡ verdict_frame v → Put (written first) 0 before m with_verdict
+    → Put (coded_frames 0 codes) m with_verdict k with_lines
+    → last ≡ end_bytes ending breach → Put (written last) k with_lines r after
+    → (fs : List Finished) → Lines fs codes → Printed (report_bytes v fs ending breach) (length before) r after
+report_printed v ending breach empty room few f p q l s fs lines =
+    let whole = put_then_put (put_then_put (rw f at p) q) (rw l at s) in
+    rw (lines_decoded lines) at (put_on_zeros empty (simp (length-append, written_length, frames_length) (omega arith)) whole)

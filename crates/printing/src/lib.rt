@@ -1,38 +1,88 @@
 // The program's output as lines of hexadecimal, written into a lent buffer.
 #![tactic(auto)]
 
-ghost use Rattle.std.specs.Prelude.{◌≡◌, List, ◌+◌, ◌*◌, ◌/◌, ◌%◌, ◌≤◌, ◌<◌, length, get_or};
+ghost use Rattle.std.specs.Prelude.{◌≡◌, List, [], ◌∷◌, ◌+◌, ◌*◌, ◌≤◌, ◌<◌, length, get_or};
 ghost use Rattle.model.specs.Session.{Finished};
-ghost use Rattle.model.specs.Text.{digits, written};
-ghost use Rattle.model.specs.Report.{refusal_frame};
+ghost use Rattle.model.specs.Text.{digits, two_bytes, written};
+ghost use Rattle.model.specs.Report.{refusal_frame, verdict_frame};
 ghost use Rattle.model.specs.Tables.{zeros};
-ghost use Rattle.printing.specs.Printed.{Printed, VerdictFits, Lines, report_bytes};
+ghost use Rattle.model.specs.Numbers.{fault_number};
+ghost use Rattle.model.specs.Told.{judged_told, ending_number, breach_told};
+ghost use Rattle.printing.specs.Printed.{Printed, VerdictFits, Lines, end_bytes, report_bytes};
 ghost use Rattle.printing.specs.Placed.{Put, coded_frame, coded_frames};
 
-use model::Verdict;
+use model::{Broken, Ran, Refusal};
 
-const DIGITS: [u8; 16] = [
-    b'0', b'1', b'2', b'3', b'4', b'5', b'6', b'7', b'8', b'9', b'a', b'b', b'c', b'd', b'e', b'f',
-];
+const DIGITS: &[u8; 16] = b"0123456789abcdef";
 
 fn digit(n: u8) -> u8
     requires { n < 16 }
     ensures { result ≡ get_or digits n 0 }
 {
-    DIGITS[n as usize]
+    DIGITS[usize::from(n)]
 }
 
-// A number that takes two bytes of a frame: the first of them, and the second.
-fn high(n: usize) -> u8
-    ensures { result ≡ n / 256 % 256 }
+// A number that takes two bytes of a frame, the higher one first.
+fn two_bytes(n: usize) -> [u8; 2]
+    requires { n < 65536 }
+    ensures { result ≡ two_bytes n }
 {
-    (n / 256 % 256) as u8
+    (n as u16).to_be_bytes()
 }
 
-fn low(n: usize) -> u8
-    ensures { result ≡ n % 256 }
+fn refusal_frame(refusal: Refusal) -> [u8; 4]
+    requires { refusal.frame < 65536 }
+    ensures { result ≡ refusal_frame (fault_number refusal.fault) refusal.frame }
 {
-    (n % 256) as u8
+    let [high, low] = two_bytes(refusal.frame);
+    [0x80, refusal.fault.number() as u8, high, low]
+}
+
+// All zero is acceptance.
+fn verdict_frame(judged: Result<(), Broken>) -> [u8; 5]
+    requires { VerdictFits (judged_told judged) }
+    ensures { result ≡ verdict_frame (judged_told judged) }
+{
+    match judged {
+        Ok(()) => [0x81, 0, 0, 0, 0],
+        Err(broken) => {
+            let [high, low] = two_bytes(broken.frame);
+            [
+                0x81,
+                broken.rule.number() as u8,
+                high,
+                low,
+                broken.step as u8,
+            ]
+        }
+    }
+}
+
+// The frame of line i, from the number that codes its outcome: the row in its two lowest bytes, the stored keys in the next two,
+// then the bits of a stopped line and of a breach.
+fn line_frame(i: usize, code: u64) -> [u8; 9]
+    requires { i < 65536 }
+    ensures { result ≡ coded_frame i code }
+{
+    let [line_high, line_low] = two_bytes(i);
+    let [_, _, _, marks, keys_high, keys_low, row_high, row_low] = code.to_be_bytes();
+    let stopped = marks % 2;
+    let breach = marks / 2 % 2;
+    [
+        0x82, line_high, line_low, stopped, row_high, row_low, keys_high, keys_low, breach,
+    ]
+}
+
+fn end_frame(ran: Ran) -> [u8; 4]
+    requires { breach_told ran.first_breach < 65536 }
+    ensures { result ≡ end_bytes (ending_number ran.ending) (breach_told ran.first_breach) }
+{
+    let ending = match ran.ending {
+        Some(ending) => ending.full.number() as u8,
+        None => 0,
+    };
+    let [high, low] = two_bytes(ran.first_breach.unwrap_or(0xffff));
+    [0x83, ending, high, low]
 }
 
 // A frame as a line, at a place of the buffer. The answer is the place after it.
@@ -41,85 +91,54 @@ fn put_frame(buffer: &mut [u8], at: usize, frame: &[u8]) -> usize
     ensures { Put (written frame.now) at buffer.old result buffer.new }
 {
     let mut place = at;
-    let mut i = 0;
-    while i < frame.len() {
-        let byte = frame[i];
+    for byte in frame {
         buffer[place] = digit(byte / 16);
         buffer[place + 1] = digit(byte % 16);
         place += 2;
-        i += 1;
     }
     buffer[place] = b'\n';
     place + 1
 }
 
-// The frame of line i, from the number that codes its outcome.
-fn put_line(buffer: &mut [u8], at: usize, i: usize, code: u64) -> usize
-    requires { at + 19 ≤ length buffer.old }
-    ensures { Put (written (coded_frame i code)) at buffer.old result buffer.new }
-{
-    let row = (code % 65536) as usize;
-    let keys = (code / 65536 % 65536) as usize;
-    let stopped = (code / 4294967296 % 2) as u8;
-    let breach = (code / 8589934592 % 2) as u8;
-    let frame = [
-        0x82,
-        high(i),
-        low(i),
-        stopped,
-        high(row),
-        low(row),
-        high(keys),
-        low(keys),
-        breach,
-    ];
-    put_frame(buffer, at, &frame)
-}
-
 // The frames of the lines, from the numbers that code their outcomes.
 fn put_lines(buffer: &mut [u8], at: usize, codes: &[u64]) -> usize
-    requires { at + 19 * length codes.now ≤ length buffer.old }
+    requires { (at + 19 * length codes.now ≤ length buffer.old) × (length codes.now ≤ 65536) }
     ensures { Put (coded_frames 0 codes.now) at buffer.old result buffer.new }
 {
     let mut place = at;
-    let mut i = 0;
-    while i < codes.len() {
-        place = put_line(buffer, place, i, codes[i]);
-        i += 1;
+    for (i, code) in codes.iter().enumerate() {
+        place = put_frame(buffer, place, &line_frame(i, *code));
     }
     place
 }
 
 // The one frame of a refused file, into a buffer that is all zero. The answer is how many bytes were written.
-pub fn print_refusal(buffer: &mut [u8], number: usize, frame: usize) -> usize
-    requires { (buffer.old ≡ zeros (length buffer.old)) × (9 ≤ length buffer.old) × (number < 256) × (frame < 65536) }
-    ensures { Printed (written (refusal_frame number frame)) (length buffer.old) result buffer.new }
+pub fn print_refusal(buffer: &mut [u8], refusal: Refusal) -> usize
+    requires empty { buffer.old ≡ zeros (length buffer.old) }
+    requires room { 9 ≤ length buffer.old }
+    requires frame { refusal.frame < 65536 }
+    ensures { Printed (written (refusal_frame (fault_number refusal.fault) refusal.frame)) (length buffer.old) result buffer.new }
 {
-    let refusal = [0x80, number as u8, high(frame), low(frame)];
-    put_frame(buffer, 0, &refusal)
+    put_frame(buffer, 0, &refusal_frame(refusal))
 }
 
-// The frames of a file: its verdict, its n finished lines, how the run ended and the first breached line.
+// The frames of a file: its verdict, its finished lines, how the run ended and the first breached line.
 pub fn print_report(
     buffer: &mut [u8],
-    v: Verdict,
+    judged: Result<(), Broken>,
     outcomes: &[u64],
-    n: usize,
-    ending: usize,
-    first: usize,
+    ran: Ran,
 ) -> usize
-    requires { (buffer.old ≡ zeros (length buffer.old)) × (19476 ≤ length buffer.old) × VerdictFits v × (length outcomes.now ≡ 1024) × (n ≤ 1024) × (ending < 256) × (first < 65536) }
-    ensures { (fs : List Finished) → Lines fs outcomes.now n → Printed (report_bytes v fs ending first) (length buffer.old) result buffer.new }
+    requires empty { buffer.old ≡ zeros (length buffer.old) }
+    requires room { 19476 ≤ length buffer.old }
+    requires verdict { VerdictFits (judged_told judged) }
+    requires lines { length outcomes.now ≤ 1024 }
+    requires breach { breach_told ran.first_breach < 65536 }
+    ensures { (fs : List Finished) → Lines fs outcomes.now
+        → Printed (report_bytes (judged_told judged) fs (ending_number ran.ending) (breach_told ran.first_breach))
+        (length buffer.old) result buffer.new }
 {
-    let verdict = [
-        0x81,
-        v.number as u8,
-        high(v.frame),
-        low(v.frame),
-        v.step as u8,
-    ];
-    let lines_at = put_frame(buffer, 0, &verdict);
-    let end_at = put_lines(buffer, lines_at, &outcomes[..n]);
-    let end = [0x83, ending as u8, high(first), low(first)];
-    put_frame(buffer, end_at, &end)
+    let lines_at = put_frame(buffer, 0, &verdict_frame(judged));
+    let end_at = put_lines(buffer, lines_at, outcomes);
+    put_frame(buffer, end_at, &end_frame(ran))
 }

@@ -1,73 +1,66 @@
 -- `migladze::report` meets its contract: reading, judging and running fill what printing prints.
 -- Assumes nothing.
-use mathlib.Core.Path.{refl, sym, ap, ◌∙◌}
-use native.Mathlib.Omega.{arith}
+use Rattle.std.proofs.Common.{sym, ap, ◌∙◌, arith, length-take-le}
 use Rattle.model.specs.Tables.{zeros}
 use Rattle.migladze.proofs.Taken.{file_taken, given_to_judge, few_commands}
 use Rattle.migladze.proofs.Running.{given_to_run, ready_to_run}
-use Rattle.migladze.proofs.Reporting.{refusal_in_bytes, refusal_reported, verdict_in_bytes, lines_to_print, few_finished, ending_in_bytes, breach_in_bytes, file_reported}
+use Rattle.migladze.proofs.Reporting.{report_made, refusal_in_bytes, refusal_reported}
+use Rattle.migladze.proofs.Reporting.{verdict_in_bytes, finished_in_table, few_printed, lines_to_print, breach_in_bytes, file_reported}
 use Rattle.migladze.proofs.report.Goals as goal
-
-pub returns-then-buffer-ne19476 : goal.returns-then-buffer-ne19476
-returns-then-buffer-ne19476 c = record {
-  right_size = λ e. absurd (c.if-buffer-ne19476.true e);
-  wrong_size = λ _. record { count = refl; buffer_is = refl; tables = refl };
-}
 
 pub print_refusal-requires : goal.print_refusal-requires
 print_refusal-requires c =
-    let size = c.if-buffer-ne19476.false in
-    let kept = c.clear_buffer.auto.buffer in
-    let small = refusal_in_bytes _ _ _ _ _ _ c.read_tables-answer.ensures c.in-Refused.is in
-    (c.clear_buffer.ensures ∙ ap zeros (sym kept), omega (arith, kept, size), small.0, small.1)
+    let size = c.if-buffer-ne-REPORT_SIZE.false in
+    let long = c.fill.ensures.len in
+    record {
+      empty = c.fill.ensures.after (λ y e. e) ∙ ap zeros (sym long);
+      room = omega arith;
+      frame = refusal_in_bytes _ c.in-Err.ensures;
+    }
 
-pub judge-v-requires : goal.judge-v-requires
-judge-v-requires c =
-    let found = file_taken _ _ _ _ _ _ _ _ c.read_tables-answer.ensures c.in-Taken.is in
-    let same = c.read_tables-answer.auto in
-    (few_commands found, same.commands ∙ found.lengths.commands_length, same.steps ∙ found.lengths.steps_length)
+pub returns-in-Err : goal.returns-in-Err
+returns-in-Err c =
+    let size = c.if-buffer-ne-REPORT_SIZE.false in
+    report_made size (refusal_reported _ c.in-Err.ensures (c.fill.ensures.len ∙ size) c.print_refusal.ensures)
 
-pub run_session-ran-requires : goal.run_session-ran-requires
-run_session-ran-requires c =
-    let found = file_taken _ _ _ _ _ _ _ _ c.read_tables-answer.ensures c.in-Taken.is in
-    ready_to_run found
+pub judge-judged-requires : goal.judge-judged-requires
+judge-judged-requires c =
+    let f = file_taken _ c.in-Ok.ensures in
+    (few_commands f, omega (arith, f.lengths.commands_length), omega (arith, f.lengths.steps_length))
+
+pub run_session-session-requires : goal.run_session-session-requires
+run_session-session-requires c = ready_to_run (file_taken _ c.in-Ok.ensures)
+
+pub slice_bounds-print_report-end : goal.slice_bounds-print_report-end
+slice_bounds-print_report-end c =
+    let f = file_taken _ c.in-Ok.ensures in
+    finished_in_table f _ (c.run_session-session.ensures.ran f.φ (given_to_run f))
+
+pub slice_bounds-print_report-end-2 : goal.slice_bounds-print_report-end-2
+slice_bounds-print_report-end-2 c =
+    let f = file_taken _ c.in-Ok.ensures in
+    sym (length-take-le _ _ (finished_in_table f _ (c.run_session-session.ensures.ran f.φ (given_to_run f))))
 
 pub print_report-requires : goal.print_report-requires
 print_report-requires c =
-    let size = c.if-buffer-ne19476.false in
-    let kept = c.clear_buffer.auto.buffer in
-    let found = file_taken _ _ _ _ _ _ _ _ c.read_tables-answer.ensures c.in-Taken.is in
-    let judged = c.judge-v.ensures found.φ (given_to_judge found) in
-    let ran = c.run_session-ran in
-    let session = ran.ensures found.φ (given_to_run found) in
-    let outcomes_long = ran.auto.outcomes ∙ c.read_tables-answer.auto.outcomes ∙ found.lengths.outcomes_length in (
-      c.clear_buffer.ensures ∙ ap zeros (sym kept),
-      omega (arith, kept, size),
-      verdict_in_bytes found judged,
-      outcomes_long,
-      few_finished found session,
-      ending_in_bytes found session,
-      breach_in_bytes found session,
-    )
-
-pub returns-in-Refused : goal.returns-in-Refused
-returns-in-Refused c =
-    let size = c.if-buffer-ne19476.false in
-    let kept = c.clear_buffer.auto.buffer in
+    let size = c.if-buffer-ne-REPORT_SIZE.false in
+    let long = c.fill.ensures.len in
+    let f = file_taken _ c.in-Ok.ensures in
+    let ran = c.run_session-session.ensures.ran f.φ (given_to_run f) in
     record {
-      right_size = λ _.
-          refusal_reported _ _ _ _ _ _ _ _ _ c.read_tables-answer.ensures c.in-Refused.is (kept ∙ size) c.print_refusal.ensures;
-      wrong_size = λ other. absurd (other size);
+      empty = c.fill.ensures.after (λ y e. e) ∙ ap zeros (sym long);
+      room = omega arith;
+      verdict = verdict_in_bytes f (c.judge-judged.ensures f.φ (given_to_judge f));
+      lines = few_printed f _ ran;
+      breach = breach_in_bytes f _ ran;
     }
 
-pub returns-in-Taken : goal.returns-in-Taken
-returns-in-Taken c =
-    let size = c.if-buffer-ne19476.false in
-    let kept = c.clear_buffer.auto.buffer in
-    let found = file_taken _ _ _ _ _ _ _ _ c.read_tables-answer.ensures c.in-Taken.is in
-    let judged = c.judge-v.ensures found.φ (given_to_judge found) in
-    let session = c.run_session-ran.ensures found.φ (given_to_run found) in
-    record {
-      right_size = λ _. file_reported found session judged (kept ∙ size) (c.print_report.ensures _ (lines_to_print found session));
-      wrong_size = λ other. absurd (other size);
-    }
+pub returns : goal.returns
+returns c =
+    let size = c.if-buffer-ne-REPORT_SIZE.false in
+    let f = file_taken _ c.in-Ok.ensures in
+    let ran = c.run_session-session.ensures.ran f.φ (given_to_run f) in
+    let judged = c.judge-judged.ensures f.φ (given_to_judge f) in
+    let kept = c.run_session-session.ensures.file_kept in
+    let printed = c.print_report.ensures _ (lines_to_print f _ ran) in
+    report_made size (file_reported f _ ran kept judged (c.fill.ensures.len ∙ size) printed)

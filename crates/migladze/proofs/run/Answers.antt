@@ -1,17 +1,19 @@
 -- `migladze::run` meets its contract: a refusal of reading is the answer, and a file is run by the session over its tables.
 -- Assumes nothing.
+use Rattle.std.proofs.lemmas.Result.{err_from_is_err_and}
 use Rattle.migladze.proofs.Taken.{file_taken}
 use Rattle.migladze.proofs.Running.{refusal_run, given_to_run, ready_to_run, file_run}
 use Rattle.migladze.proofs.run.Goals as goal
 
-pub run_session-ran-requires : goal.run_session-ran-requires
-run_session-ran-requires c =
-    ready_to_run (file_taken _ _ _ _ _ _ _ _ c.read_tables-answer.ensures c.in-Taken.is)
+pub returns-in_err-lines : goal.returns-in_err-lines
+returns-in_err-lines c =
+    let p = err_from_is_err_and c.from_residual.result c.from_residual.ensures.1 in
+    rw (p.1, p.2) (refusal_run _ c.in_err-lines.ensures)
 
-pub returns-in-Refused : goal.returns-in-Refused
-returns-in-Refused c = refusal_run _ _ _ _ _ _ c.read_tables-answer.ensures c.in-Refused.is
+pub run_session-requires : goal.run_session-requires
+run_session-requires c = ready_to_run (file_taken _ c.in_ok-lines.ensures)
 
-pub returns-in-Taken : goal.returns-in-Taken
-returns-in-Taken c =
-    let found = file_taken _ _ _ _ _ _ _ _ c.read_tables-answer.ensures c.in-Taken.is in
-    file_run found (c.run_session-ran.ensures found.φ (given_to_run found))
+pub returns : goal.returns
+returns c =
+    let f = file_taken _ c.in_ok-lines.ensures in
+    file_run f _ (c.run_session.ensures.ran f.φ (given_to_run f)) c.run_session.ensures.file_kept

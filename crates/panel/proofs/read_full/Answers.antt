@@ -18,9 +18,11 @@ take_written a k n xs ys within fits =
 
 pub loop-done-preserved : goal.loop-done-preserved
 loop-done-preserved g c =
+    let loop = c.loop-done in
     let read = c.in_ok-n.ensures in
-    let front = take_written c.loop-done.done (length c.loop-done.buffer - c.loop-done.done) c.in_ok-n.n c.loop-done.buffer c.read.new.buf c.loop-done.invariant.in_range read.bound.0 in
+    let room = length loop.buffer - loop.done in
+    let front = take_written loop.done room c.in_ok-n.n loop.buffer c.read.new.buf loop.invariant.in_range read.bound.0 in
     record {
       in_range = search rules;
-      consumed = subst (Consumes _ _) (sym front) (Consumes-trans _ _ _ _ _ c.loop-done.invariant.consumed read.bytes.0);
+      consumed = subst (Consumes _ _) (sym front) (Consumes-trans _ _ _ _ _ loop.invariant.consumed read.bytes.0);
     }

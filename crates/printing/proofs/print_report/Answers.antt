@@ -1,16 +1,12 @@
 -- `printing::print_report` meets its contract: three runs of bytes, each put where the one before it ends.
 -- Assumes nothing.
 use native.Mathlib.Omega.{arith}
-use lib.ListN.{length-take}
 use borrow.Author.Rules.{rules}
 use Rattle.printing.proofs.Laws.{frame_ends, lines_end, report_printed}
 use Rattle.printing.proofs.print_report.Goals as goal
 
-pub slice_bounds-put_lines-end : goal.slice_bounds-put_lines-end
-slice_bounds-put_lines-end c = simp length-take (omega arith)
-
 pub put_lines-end_at-requires : goal.put_lines-end_at-requires
-put_lines-end_at-requires c = simp length-take (omega (arith, frame_ends))
+put_lines-end_at-requires c = (omega (arith, frame_ends), omega arith)
 
 pub put_frame-requires : goal.put_frame-requires
 put_frame-requires c = omega (arith, frame_ends, lines_end)
