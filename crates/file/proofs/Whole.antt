@@ -2,18 +2,24 @@
 -- Assumes nothing.
 use Prim.Native.Nat.{ℕ, ◌<◌}
 use mathlib.Core.Path.{◌≡◌, sym, ◌∙◌}
-use mathlib.Core.Bool.{Bool, true, false, ◌&&◌}
+use mathlib.Core.Bool.{Bool, true, false, ◌&&◌, false≢true}
 use mathlib.Core.List.{List}
 use native.Mathlib.Omega.{arith}
 use lib.Dec.{T, eqb, eqb→eq}
 use lib.ListN.{length, length-replicate}
 use borrow.Author.Tests.{lt-leb}
+use Rattle.std.specs.Prelude.{Result, Ok, Err}
+use Rattle.std.specs.Result.{is_err}
+use Rattle.model.specs.declared.Contents.{Contents}
+use Rattle.model.specs.declared.Refusal.{Refusal}
+use Rattle.model.specs.Told.{read_told}
 use Rattle.model.specs.File.{Parsed, refused, file, parse}
-use Rattle.model.specs.Tables.{Tables, zeros, right_lengths, read_into, read_answer, tables_read, ReadIs}
+use Rattle.model.specs.Tables.{Tables, zeros, cleared, right_lengths, read_into, read_answer, tables_read, ReadIs}
 use Rattle.model.specs.Tables.{ReadAnswer}
 use Rattle.model.specs.Tables as read
 use Rattle.model.proofs.Tests.{and_left, and_right}
-use Rattle.file.specs.Framed.{Lengths, Zeros, Cleared, Left, FramedIs, LeftIs}
+use Rattle.frames.specs.declared.file_tables.FileTables.{FileTables}
+use Rattle.file.specs.Framed.{Zeros, ZerosIn, Cleared, Left, FramedIs, LeftIs}
 
 pub too_long : (input heads arguments commands steps : List ℕ) → Cleared heads arguments commands steps → 32768 < length input
     → LeftIs (parse input) (read.Refused 1 0) heads arguments commands steps
@@ -22,32 +28,40 @@ too_long input heads arguments commands steps h l =
     let long = lt-leb (length input) 32768 l in
     record { answer = rw long; left = rw long h.all_zero }
 
-pub refusal_left : (p : Parsed) (r : ReadAnswer) (n k : ℕ) (heads arguments commands steps heads' arguments' commands' steps' : List ℕ)
-    → FramedIs p r heads arguments commands steps → r ≡ read.Refused n k → Lengths heads arguments commands steps
-    → Zeros heads' arguments' commands' steps' (length heads) (length arguments) (length commands) (length steps)
-    → LeftIs p r heads' arguments' commands' steps'
+-- the four lists are what the tables hold
+pub record AreIn (t : FileTables) (heads arguments commands steps : List ℕ) : Type 0 where
+  pub heads_are : heads ≡ t.heads.now
+  pub arguments_are : arguments ≡ t.arguments.now
+  pub commands_are : commands ≡ t.commands.now
+  pub steps_are : steps ≡ t.steps.now
+
+-- a refusal leaves what was cleared once more, and a file what was held
+pub refusal_left : (p : Parsed) (r : Result Contents Refusal) (t t' : FileTables) {heads arguments commands steps : List ℕ}
+    → FramedIs p (read_told r) t
+    → is_err r ≡ true → ZerosIn t' → AreIn t' heads arguments commands steps
+    → LeftIs p (read_told r) heads arguments commands steps
 unfolding read_answer
-refusal_left (refused m j) r n k heads arguments commands steps heads' arguments' commands' steps' f e long zero =
+refusal_left (refused n k) r t t' f e zero are =
     record {
       answer = f.answer;
       left = record {
-        heads_zero = rw long.heads_length at zero.heads_zero;
-        arguments_zero = rw long.arguments_length at zero.arguments_zero;
-        commands_zero = rw long.commands_length at zero.commands_zero;
-        steps_zero = rw long.steps_length at zero.steps_zero;
+        heads_zero = are.heads_are ∙ zero.heads_zero;
+        arguments_zero = are.arguments_are ∙ zero.arguments_zero;
+        commands_zero = are.commands_are ∙ zero.commands_zero;
+        steps_zero = are.steps_are ∙ zero.steps_zero;
       };
     }
-refusal_left (file φ) r n k heads arguments commands steps heads' arguments' commands' steps' f e long zero =
-    let same : read.Refused n k ≡ read_answer (file φ) = sym e ∙ f.answer in
-    absurd (let z : ◌≡◌ {A = ℕ} 0 1 = cc in omega arith)
+refusal_left (file φ) (Ok c) t t' f e zero are = absurd (false≢true e)
+refusal_left (file φ) (Err d) t t' f e zero are = let told = f.answer in absurd (let z : ◌≡◌ {A = ℕ} 0 1 = cc in omega arith)
 
-pub file_left : (p : Parsed) (r : ReadAnswer) (t a n m : ℕ) (heads arguments commands steps : List ℕ)
-    → FramedIs p r heads arguments commands steps → r ≡ read.Taken t a n m → LeftIs p r heads arguments commands steps
+pub file_left : (p : Parsed) (r : Result Contents Refusal) (t : FileTables) {heads arguments commands steps : List ℕ}
+    → FramedIs p (read_told r) t
+    → is_err r ≡ false → AreIn t heads arguments commands steps → LeftIs p (read_told r) heads arguments commands steps
 unfolding read_answer
-file_left (file φ) r t a n m heads arguments commands steps f e = record { answer = f.answer; left = f.held }
-file_left (refused i j) r t a n m heads arguments commands steps f e =
-    let same : read.Taken t a n m ≡ read_answer (refused i j) = sym e ∙ f.answer in
-    absurd (let z : ◌≡◌ {A = ℕ} 0 1 = cc in omega arith)
+file_left (file φ) r t f e are =
+    record { answer = f.answer; left = rw (are.heads_are, are.arguments_are, are.commands_are, are.steps_are) f.held }
+file_left (refused n k) (Ok c) t f e are = let told = f.answer in absurd (let z : ◌≡◌ {A = ℕ} 0 1 = cc in omega arith)
+file_left (refused n k) (Err d) t f e are = absurd (false≢true (sym e))
 
 -- ---- with all tables
 
@@ -86,10 +100,10 @@ lengths_right lent e =
       steps_length = eqb→eq (length lent.steps) 512 (and_right (a && b && c && d && f && g) h t);
     }
 
-pub cleared_ready : (lent : Tables) (heads arguments commands steps : List ℕ) → right_lengths lent ≡ true
+pub cleared_ready : (lent : Tables) {heads arguments commands steps : List ℕ} → right_lengths lent ≡ true
     → Zeros heads arguments commands steps (length lent.heads) (length lent.arguments) (length lent.commands) (length lent.steps)
     → Cleared heads arguments commands steps
-cleared_ready lent heads arguments commands steps e z =
+cleared_ready lent {heads} {arguments} {commands} {steps} e z =
     let long = lengths_right lent e in
     let h : heads ≡ zeros 1024 = rw long.heads_length at z.heads_zero in
     let a : arguments ≡ zeros 1024 = rw long.arguments_length at z.arguments_zero in
@@ -105,21 +119,14 @@ cleared_ready lent heads arguments commands steps e z =
       all_zero = record { heads_zero = h; arguments_zero = a; commands_zero = c; steps_zero = s };
     }
 
-pub all_cleared_refused : (input : List ℕ) (lent : Tables) (rows keys heads arguments outcomes commands steps : List ℕ)
-    → right_lengths lent ≡ false
-    → rows ≡ zeros (length lent.rows) → keys ≡ zeros (length lent.keys) → outcomes ≡ zeros (length lent.outcomes)
-    → Zeros heads arguments commands steps (length lent.heads) (length lent.arguments) (length lent.commands) (length lent.steps)
-    → ReadIs input lent (read.Refused 15 0)
-    (record { rows = rows; keys = keys; heads = heads; arguments = arguments; outcomes = outcomes; commands = commands; steps = steps })
+pub all_cleared_refused : (input : List ℕ) (lent left : Tables) → right_lengths lent ≡ false → left ≡ cleared lent
+    → ReadIs input lent (read.Refused 15 0) left
 unfolding read_into read_answer tables_read
-all_cleared_refused input lent rows keys heads arguments outcomes commands steps e r k o z = record {
-  answer = rw e;
-  tables = rw (e, r, k, o, z.heads_zero, z.arguments_zero, z.commands_zero, z.steps_zero);
-}
+all_cleared_refused input lent left e are = record { answer = rw e; tables = rw (e, are) }
 
--- the tables that reading fills, beside the others, which are zero
-abbrev beside_zeros : Tables → (heads arguments commands steps : List ℕ) → Tables
-beside_zeros lent heads arguments commands steps = record {
+-- the tables that reading fills, beside the others, which are cleared
+abbrev pub beside_cleared : Tables → (heads arguments commands steps : List ℕ) → Tables
+beside_cleared lent heads arguments commands steps = record {
   rows = zeros (length lent.rows);
   keys = zeros (length lent.keys);
   heads = heads;
@@ -129,22 +136,21 @@ beside_zeros lent heads arguments commands steps = record {
   steps = steps;
 }
 
-left_tables : (lent : Tables) (heads arguments commands steps : List ℕ) (p : Parsed) → AllLengths lent → Left p heads arguments commands steps
-    → beside_zeros lent heads arguments commands steps ≡ tables_read lent p
+left_tables : (lent : Tables) (heads arguments commands steps : List ℕ) (p : Parsed) → AllLengths lent
+    → Left p heads arguments commands steps
+    → beside_cleared lent heads arguments commands steps ≡ tables_read lent p
 unfolding tables_read
 left_tables lent heads arguments commands steps (refused n k) long h =
-    rw (long.heads_length, long.arguments_length, long.commands_length, long.steps_length, h.heads_zero, h.arguments_zero, h.commands_zero, h.steps_zero)
+    rw (long.heads_length, long.arguments_length, long.commands_length, long.steps_length)
+    (rw (h.heads_zero, h.arguments_zero, h.commands_zero, h.steps_zero))
 left_tables lent heads arguments commands steps (file φ) long h =
     rw (long.rows_length, long.keys_length, long.outcomes_length, h.heads_are, h.arguments_are, h.commands_are, h.steps_are)
 
-pub whole_read : (input : List ℕ) (lent : Tables) (r : ReadAnswer) (rows keys heads arguments outcomes commands steps : List ℕ)
+pub whole_read : (input : List ℕ) (lent left : Tables) (r : ReadAnswer) (heads arguments commands steps : List ℕ)
     → right_lengths lent ≡ true
-    → rows ≡ zeros (length lent.rows) → keys ≡ zeros (length lent.keys) → outcomes ≡ zeros (length lent.outcomes)
-    → LeftIs (parse input) r heads arguments commands steps
-    → ReadIs input lent r
-    (record { rows = rows; keys = keys; heads = heads; arguments = arguments; outcomes = outcomes; commands = commands; steps = steps })
+    → LeftIs (parse input) r heads arguments commands steps → left ≡ beside_cleared lent heads arguments commands steps
+    → ReadIs input lent r left
 unfolding read_into
-whole_read input lent r rows keys heads arguments outcomes commands steps e r-zero k-zero o-zero h =
-    let long = lengths_right lent e in
-    let right = left_tables lent heads arguments commands steps (parse input) long h.left in
-    record { answer = rw e h.answer; tables = rw (e, r-zero, k-zero, o-zero) right }
+whole_read input lent left r heads arguments commands steps e h are =
+    let right = left_tables lent heads arguments commands steps (parse input) (lengths_right lent e) h.left in
+    record { answer = rw e h.answer; tables = are ∙ rw e right }

@@ -7,17 +7,17 @@ use Prim.Native.Nat.{ℕ, suc, ◌+◌, ◌-◌, ◌*◌, ◌^◌, ◌≤◌, �
 use native.Mathlib.Nat.{pow-suc, pow-le-pow_right}
 use native.Mathlib.Decide.{dec_lt}
 use native.Mathlib.Omega.{arith}
-use lib.Dec.{ltb, lit<}
-use lib.ListN.{length, take, drop, length-drop, drop_of_length-le}
+use lib.Dec.{lit<}
+use lib.ListN.{length, drop, length-drop, drop_of_length-le}
 use borrow.Author.Tests.{lt-leb, le-leb}
+use Rattle.std.specs.Int.{w16, from_be_bytes}
 use Rattle.model.specs.Basics.{every}
+use Rattle.model.specs.Text.{number_from}
 use Rattle.model.specs.Frame.{byte_at, arg_of, args_of, arg_names}
 use Rattle.model.specs.Tables.{arg_code, args_code}
-use Rattle.frames.specs.Parts.{NumberIs, ArgumentIs}
+use Rattle.frames.specs.Parts.{ArgumentIs}
 use Rattle.frames.proofs.Lists.{drop_more}
-
-two_bytes_read : (f : List ℕ) (a : ℕ) → a + 2 ≤ length f → take 2 (drop a f) ≡ byte_at f a ∷ byte_at f (a + 1) ∷ []
-two_bytes_read f a h = rw (drop_more 0 f a (omega arith), drop_more 0 f (a + 1) (omega arith))
+use Rattle.frames.proofs.Numbers.{two_bytes}
 
 pairs : (s : List ℕ) → (2 * length (args_of s) ≤ length s) × (length s < 2 * length (args_of s) + 2)
 unfolding args_of
@@ -25,12 +25,13 @@ pairs [] = omega arith
 pairs (x ∷ []) = omega arith
 pairs (x ∷ y ∷ rest) = let more = pairs rest in omega arith
 
-pub argument_is : (f : List ℕ) (i x : ℕ) → 6 + 2 * i ≤ length f
-    → NumberIs (take (4 + 2 * i + 2 - (4 + 2 * i)) (drop (4 + 2 * i) f)) x → ArgumentIs f i x
-argument_is f i x h n =
-    let two : 4 + 2 * i + 2 - (4 + 2 * i) ≡ 2 = omega arith in
-    let m : NumberIs (byte_at f (4 + 2 * i) ∷ byte_at f (4 + 2 * i + 1) ∷ []) x = rw (two, two_bytes_read f (4 + 2 * i) (omega arith)) at n in
-    record { value = m.value; small = m.small }
+pub argument_is : (f : List ℕ) (i x : ℕ) → byte_at f (4 + 2 * i) < 256 → byte_at f (5 + 2 * i) < 256
+    → x ≡ from_be_bytes w16 (byte_at f (4 + 2 * i) ∷ byte_at f (5 + 2 * i) ∷ []) → ArgumentIs f i x
+unfolding number_from
+argument_is f i x high low is =
+    let next : 5 + 2 * i ≡ 4 + 2 * i + 1 = omega arith in
+    let value = rw (next, two_bytes (byte_at f (4 + 2 * i)) (byte_at f (4 + 2 * i + 1))) at is in
+    record { value = value; small = omega arith }
 
 next_argument : (f : List ℕ) (i x : ℕ) → 6 + 2 * i ≤ length f → ArgumentIs f i x
     → args_of (drop (4 + 2 * i) f) ≡ arg_of x ∷ args_of (drop (4 + 2 * (i + 1)) f)
@@ -50,15 +51,8 @@ code_kept x = elim (dec_lt x 0x8000) [ yes low ↦ rw (lt-leb 0x8000 x low) | no
 pub arguments_count : (f : List ℕ) (k : ℕ) → length f ≡ 4 + 2 * k → length (args_of (drop 4 f)) ≡ k
 arguments_count f k h = omega (arith, length-drop 4 f, pairs (drop 4 f))
 
-pub constant_named : (m x : ℕ) → 0x8000 ≤ x → true ≡ arg_names m (arg_of x)
-constant_named m x h = rw (le-leb 0x8000 x h)
-
-pub line_is_named : (m x : ℕ) → x < 0x8000 → ltb x m ≡ arg_names m (arg_of x)
-line_is_named m x h = rw (lt-leb 0x8000 x h)
-
 -- the invariant of the loop over the arguments: those from i on decide
 pub record Naming (f : List ℕ) (m k i : ℕ) : Type 0 where
-  pub within : i ≤ k
   pub whole : length f ≡ 4 + 2 * k
   pub same : every (arg_names m) (args_of (drop 4 f)) ≡ every (arg_names m) (args_of (drop (4 + 2 * i) f))
 
@@ -66,7 +60,6 @@ module _ {f : List ℕ} {m k i : ℕ} (v : Naming f m k i) where
   module _ (more : i < k) {x : ℕ} (is : ArgumentIs f i x) (r : Bool) (decides : r ≡ arg_names m (arg_of x)) where
     pub naming_turn : r ≡ true → Naming f m k (i + 1)
     naming_turn h = record {
-      within = omega arith;
       whole = v.whole;
       same = v.same ∙ rw (next_argument f i x (omega (arith, v.whole)) is, ← decides, h);
     }
@@ -119,3 +112,5 @@ module _ {f : List ℕ} {code k i : ℕ} (v : Coding f code k i) where
 
   pub coding_done : i ≤ 0 → code ≡ args_code (args_of (drop 4 f))
   coding_done h = let e : i ≡ 0 = omega arith in rw e at v.is
+
+pub ruleset coding = (coding_start, code_fits, coding_turn, coding_done)

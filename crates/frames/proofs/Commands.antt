@@ -2,20 +2,20 @@
 -- Assumes nothing.
 use mathlib.Core.Path.{◌≡◌, refl, sym, ap, ◌∙◌}
 use mathlib.Core.Bool.{Bool, true, false, ◌&&◌}
-use mathlib.Core.List.{List, ◌++◌, map, append_assoc}
+use mathlib.Core.List.{List, map}
 use Prim.Native.Nat.{ℕ, ◌+◌, ◌-◌, ◌*◌, ◌≤◌}
 use native.Mathlib.Omega.{arith}
 use lib.Dec.{leb, ltb, eqb}
-use lib.ListN.{length, take, drop, set, length-drop}
-use lib.Seq.{drop-drop}
+use lib.ListN.{length, take, drop, length-drop}
 use borrow.Author.Tests.{leb-true, eqb-true}
 use Rattle.model.specs.Basics.{◌else◌then◌, every}
 use Rattle.model.specs.Frame.{File, byte_at, steps_of, command_of, step_formed, returns_last, names_made, command_kind, body_refusal}
 use Rattle.model.specs.Tables.{padded, step_code, command_code}
 use Rattle.frames.specs.Turn.{turn_of}
-use Rattle.frames.specs.Parts.{no_step, filled, head_formed, DecodedAs, CommandStored, Takes}
+use Rattle.frames.specs.Parts.{no_step, filled, head_formed, DecodedAs, CommandStored, Takes, TakesIn}
+use Rattle.frames.specs.declared.file_tables.FileTables.{FileTables}
 use Rattle.frames.specs.declared.command.Command.{Command}
-use Rattle.frames.specs.declared.Turn.TheVariants as turn
+use Rattle.frames.specs.Turn as turn
 use Rattle.frames.proofs.Lists.{both, whole_rest, filled_first, filled_map}
 use Rattle.frames.proofs.Turns.{refused, room_left, is_command, taken, is_in_place}
 use Rattle.frames.proofs.Tables.{entry_written, steps_written}
@@ -42,23 +42,17 @@ formed_head f formed =
       whole = eqb-true (length f) (3 + 4 * byte_at f 2) three.1;
     }
 
-pub head_tells : (f : List ℕ) (b : Bool) → b ≡ head_formed f → b ≡ true → HeadTells f
+head_tells : (f : List ℕ) (b : Bool) → b ≡ head_formed f → b ≡ true → HeadTells f
 head_tells f b is good = formed_head f (sym is ∙ good)
 
--- the bytes from place k on
-pub rest_length : (k : ℕ) (f : List ℕ) → length (take (length f - k) (drop k f)) ≡ length f - k
-rest_length k f = rw (whole_rest k f) (length-drop k f)
+pub head_whole : (f : List ℕ) (b : Bool) → b ≡ head_formed f → b ≡ true → length f ≡ 3 + 4 * byte_at f 2
+head_whole f b is good = (head_tells f b is good).whole
 
--- ---- storing
+pub head_some : (f : List ℕ) (b : Bool) → b ≡ head_formed f → b ≡ true → 1 ≤ byte_at f 2
+head_some f b is good = (head_tells f b is good).some_step
 
-pub command_stored : (c : Command) (n u w : ℕ) (k s ys : List ℕ) → u ≡ c.params → w ≡ c.count → ys ≡ map step_code c.steps
-    → CommandStored c n k s (set k n (u + 256 * w)) (take (16 * n) s ++ (ys ++ drop (16 * n + 16 - 16 * n) (drop (16 * n) s)))
-command_stored c n u w k s ys is-u is-w are =
-    let own : 16 * n + 16 - 16 * n ≡ 16 = omega arith in
-    record {
-      entry = rw (is-u, is-w);
-      places = rw (own, drop-drop 16 (16 * n) s, are) (sym (append_assoc (take (16 * n) s) (map step_code c.steps) (drop (16 * n + 16) s)));
-    }
+pub head_few : (f : List ℕ) (b : Bool) → b ≡ head_formed f → b ≡ true → byte_at f 2 ≤ 16
+head_few f b is good = (head_tells f b is good).few_steps
 
 -- ---- the refusals
 module _ (f : List ℕ) (kind : byte_at f 0 ≡ 2) (b : Bool) (is_b : b ≡ head_formed f) where
@@ -106,10 +100,9 @@ module _ (f : List ℕ) (kind : byte_at f 0 ≡ 2) (b : Bool) (is_b : b ≡ head
       command_refused some k s m h a c counted held =
           refused x (is_in_place f (is_command f kind) counted refl ∙ refusal_is c.file counted.commands_are) some held
 
-      pub command_taken : x ≡ 0 → (k s k' s' : List ℕ) → CommandStored r n k s k' s' → (m : ℕ) (h a : List ℕ)
-          → Takes 1 n m f turn.Command h a k s h a k' s'
+      pub command_taken : x ≡ 0 → {t t' : FileTables} → CommandStored r n t t' → (m : ℕ) → TakesIn 1 n m f turn.Command t t'
       unfolding turn_of command_code
-      command_taken none k s k' s' stored m h a c counted held =
+      command_taken none stored m c counted held =
           let cs = c.file.commands in
           let count = counted.commands_are in
           let room = room_left p q n 32 x is_x none in
@@ -117,8 +110,8 @@ module _ (f : List ℕ) (kind : byte_at f 0 ≡ 2) (b : Bool) (is_b : b ≡ head
           let code : r.params + 256 * r.count ≡ command_code (command_of f) = rw (is_r.params_are, count_is) in
           taken f (is_command f kind) (is_in_place f (is_command f kind) counted refl ∙ refusal_is c.file count ∙ none) refl
           (record {
-            heads_are = held.heads_are;
-            arguments_are = held.arguments_are;
-            commands_are = stored.entry ∙ entry_written command_code 32 n cs (command_of f) k _ held.commands_are count room code;
-            steps_are = stored.places ∙ steps_written cs counted.few_steps (command_of f) n s _ held.steps_are count room codes_are few;
+            heads_are = stored.heads_kept ∙ held.heads_are;
+            arguments_are = stored.arguments_kept ∙ held.arguments_are;
+            commands_are = stored.entry ∙ entry_written command_code 32 n cs (command_of f) _ _ held.commands_are count room code;
+            steps_are = stored.places ∙ steps_written cs counted.few_steps (command_of f) n _ _ held.steps_are count room codes_are few;
           })

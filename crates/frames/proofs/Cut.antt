@@ -1,7 +1,7 @@
 -- The longest frame that is taken has 67 bytes, so a frame that was cut at 68 or later means the same.
 -- Assumes nothing.
 use mathlib.Core.Path.{◌≡◌, refl}
-use mathlib.Core.Bool.{Bool, true, false, ◌&&◌}
+use mathlib.Core.Bool.{Bool, true, false, ◌&&◌, and-false}
 use mathlib.Core.List.{List}
 use Prim.Native.Nat.{ℕ, ◌+◌, ◌*◌, ◌≤◌}
 use native.Mathlib.Decide.{dec_lt}
@@ -11,8 +11,8 @@ use lib.ListN.{length, take}
 use lib.Seq.{take_all, length-take-le, get_or-take}
 use borrow.Author.Tests.{ne_eqb, lt-leb}
 use Rattle.model.specs.Basics.{◌else◌then◌}
-use Rattle.model.specs.Frame.{File, Reading, Kind, policy_kind, command_kind, line_kind, other_kind, byte_at, command_formed, line_formed, kind_of, in_place, body_refusal, frame_refusal}
-use Rattle.frames.proofs.Lists.{and_false}
+use Rattle.model.specs.Frame.{File, Reading, Kind, policy_kind, command_kind, line_kind, other_kind, byte_at, command_formed, line_formed}
+use Rattle.model.specs.Frame.{kind_of, in_place, body_refusal, frame_refusal}
 
 -- ---- a frame of 68 bytes is not formed, of whatever kind it is
 
@@ -26,19 +26,19 @@ module _ (f : List ℕ) (long : 68 ≤ length f) where
   command_too_long : command_formed f ≡ false
   command_too_long =
       elim (dec_lt 16 (byte_at f 2)) [
-        | yes many ↦ rw (lt-leb (byte_at f 2) 16 many, and_false (leb (byte_at f 1) 4 && leb 1 (byte_at f 2)))
+        | yes many ↦ rw (lt-leb (byte_at f 2) 16 many, and-false (leb (byte_at f 1) 4 && leb 1 (byte_at f 2)))
         | no few ↦
             rw (
               ne_eqb (length f) (3 + 4 * byte_at f 2) (λ q. omega arith),
-              and_false (leb (byte_at f 1) 4 && leb 1 (byte_at f 2) && leb (byte_at f 2) 16),
+              and-false (leb (byte_at f 1) 4 && leb 1 (byte_at f 2) && leb (byte_at f 2) 16),
             )
       ]
 
   line_too_long : line_formed f ≡ false
   line_too_long =
       elim (dec_lt 4 (byte_at f 3)) [
-        | yes many ↦ rw (lt-leb (byte_at f 3) 4 many, and_false (leb (byte_at f 1) 3))
-        | no few ↦ rw (ne_eqb (length f) (4 + 2 * byte_at f 3) (λ q. omega arith), and_false (leb (byte_at f 1) 3 && leb (byte_at f 3) 4))
+        | yes many ↦ rw (lt-leb (byte_at f 3) 4 many, and-false (leb (byte_at f 1) 3))
+        | no few ↦ rw (ne_eqb (length f) (4 + 2 * byte_at f 3) (λ q. omega arith), and-false (leb (byte_at f 1) 3 && leb (byte_at f 3) 4))
       ]
 
   body_too_long : (φ : File) (kind : Kind) → body_refusal φ kind f ≡ is_too_long kind

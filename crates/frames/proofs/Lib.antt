@@ -1,3 +1,4 @@
+-- The laws that the functions' proofs cite, subject by subject.
 pub mod Lists
 pub mod Numbers
 pub mod Turns

@@ -3,54 +3,29 @@
 use mathlib.Core.Path.{◌≡◌, refl, sym, ap, ◌∙◌}
 use mathlib.Core.Bool.{Bool, true, false, cond, ◌&&◌}
 use mathlib.Core.List.{List, map}
-use Prim.Native.Nat.{ℕ, zero, suc, ◌+◌, ◌*◌, ◌%◌, ◌≤◌, ◌<◌}
+use Prim.Native.Nat.{ℕ, zero, suc, ◌+◌, ◌*◌, ◌%◌, ◌≤◌}
 use native.Mathlib.Decide.{dec_lt}
 use native.Mathlib.Omega.{arith}
 use lib.Dec.{eqb, ltb, leb, eqb-suc-zero}
-use lib.ListN.{length, get_or, drop, set, get_or-eq_default}
-use borrow.Author.Tests.{eq-eqb, ne_eqb, lt-ltb, le-ltb, lt-leb, le-leb, leb-true, eqb-true}
+use lib.ListN.{length, get_or, drop}
+use borrow.Author.Tests.{le-ltb, le-leb, leb-true, eqb-true}
 use Rattle.model.specs.Basics.{◌else◌then◌, every}
 use Rattle.model.specs.Step.{Command}
 use Rattle.model.specs.Token.{command_at}
 use Rattle.model.specs.Session.{Arg}
-use Rattle.model.specs.Frame.{Reading, byte_at, args_of, arg_names, line_by, line_of, head_fits, line_formed, line_names, line_kind, body_refusal}
-use Rattle.model.specs.Tables.{Held, padded, command_code, head_code, args_code, args_of_line}
+use Rattle.model.specs.Frame.{Reading, byte_at, args_of, arg_names, line_by, line_of, head_fits, line_formed, line_names, line_kind}
+use Rattle.model.specs.Frame.{body_refusal}
+use Rattle.model.specs.Tables.{padded, command_code, head_code, args_code, args_of_line}
 use Rattle.frames.specs.Turn.{turn_of, Counted}
 use Rattle.frames.specs.Parts.{line_named, LineStored, Takes}
-use Rattle.frames.specs.declared.Turn.TheVariants as turn
-use Rattle.frames.proofs.Lists.{and_false, both}
+use Rattle.frames.specs.declared.file_tables.FileTables.{FileTables}
+use Rattle.frames.specs.Turn as turn
+use Rattle.frames.proofs.Lists.{both}
 use Rattle.frames.proofs.Turns.{refused, room_left, is_line, taken, is_in_place}
 use Rattle.frames.proofs.Tables.{entry_written, params_there}
 use Rattle.frames.proofs.Arguments.{arguments_count}
 
 -- ---- the form of a line
-
-pub fits_above : (kind number count : ℕ) → 3 ≤ kind → (ltb number 2 && eqb count 1) ≡ head_fits kind number count
-fits_above zero number count h = absurd (omega arith)
-fits_above (suc zero) number count h = absurd (omega arith)
-fits_above (suc (suc zero)) number count h = absurd (omega arith)
-fits_above (suc (suc (suc kind))) number count h = refl
-
-module _ (f : List ℕ) where
-  pub line_short : length f < 4 → false ≡ line_formed f
-  line_short h =
-      let e : byte_at f 3 ≡ 0 = get_or-eq_default f 0 {n = 3} (omega arith) in
-      rw (e, ne_eqb (length f) 4 (λ q. omega arith), and_false (leb (byte_at f 1) 3 && leb 0 4))
-
-  pub kind_other : 3 < byte_at f 1 → false ≡ line_formed f
-  kind_other h = rw (lt-leb (byte_at f 1) 3 h)
-
-  module _ (kind : byte_at f 1 ≤ 3) where
-    pub many_arguments : 4 < byte_at f 3 → false ≡ line_formed f
-    many_arguments h = rw (le-leb (byte_at f 1) 3 kind, lt-leb (byte_at f 3) 4 h)
-
-    module _ (few : byte_at f 3 ≤ 4) where
-      pub other_length : (length f ≡ 4 + 2 * byte_at f 3 → ⊥) → false ≡ line_formed f
-      other_length h = rw (le-leb (byte_at f 1) 3 kind, le-leb (byte_at f 3) 4 few, ne_eqb (length f) (4 + 2 * byte_at f 3) h)
-
-      pub head_decides : length f ≡ 4 + 2 * byte_at f 3 → (b : Bool) → b ≡ head_fits (byte_at f 1) (byte_at f 2) (byte_at f 3) → b ≡ line_formed f
-      head_decides whole b is =
-          is ∙ rw (le-leb (byte_at f 1) 3 kind, le-leb (byte_at f 3) 4 few, eq-eqb (length f) (4 + 2 * byte_at f 3) whole)
 
 record LineTells (f : List ℕ) : Type 0 where
   pub kind : byte_at f 1 ≤ 3
@@ -71,36 +46,11 @@ line_tells f b is good =
       fits = three.1;
     }
 
-pub line_whole : (f : List ℕ) (b : Bool) → b ≡ line_formed f → b ≡ true → length f ≡ 4 + 2 * byte_at f 3
-line_whole f b is good = (line_tells f b is good).whole
-
-pub line_few : (f : List ℕ) (b : Bool) → b ≡ line_formed f → b ≡ true → byte_at f 3 ≤ 4
-line_few f b is good = (line_tells f b is good).few
-
 -- ---- what a line names
 
-pub command_there : (number n params x p : ℕ) → number < n → p ≡ params → eqb p x ≡ (ltb number n && eqb params x)
-command_there number n params x p there is = rw (lt-ltb number n there, is)
-
-pub command_missing : (number n params x : ℕ) → n ≤ number → false ≡ (ltb number n && eqb params x)
-command_missing number n params x past = rw (le-ltb number n past)
-
-module _ (f : List ℕ) (n m : ℕ) (commands : List ℕ) where
-  module _ (called : byte_at f 1 ≡ 0) (b : Bool) (decides : b ≡ (ltb (byte_at f 2) n && eqb (byte_at f 3) (get_or commands (byte_at f 2) 0 % 256))) where
-    pub no_command : b ≡ false → false ≡ line_named f n m commands
-    unfolding line_named
-    no_command h = rw (eq-eqb (byte_at f 1) 0 called, ← decides, h)
-
-    pub call_decided : b ≡ true → (r : Bool) → r ≡ every (arg_names m) (args_of (drop 4 f)) → r ≡ line_named f n m commands
-    unfolding line_named
-    call_decided h r is = is ∙ rw (eq-eqb (byte_at f 1) 0 called, ← decides, h)
-
-  pub compute_decided : (byte_at f 1 ≡ 0 → ⊥) → (r : Bool) → r ≡ every (arg_names m) (args_of (drop 4 f)) → r ≡ line_named f n m commands
-  unfolding line_named
-  compute_decided h r is = is ∙ rw (ne_eqb (byte_at f 1) 0 h)
-
 -- the table's answer is the model's
-module _ (cs : List Command) (commands : List ℕ) (held : commands ≡ padded 32 (map command_code cs)) (few : (i : ℕ) → (command_at cs i).params ≤ 4) where
+module _ (cs : List Command) (commands : List ℕ) (held : commands ≡ padded 32 (map command_code cs))
+    (few : (i : ℕ) → (command_at cs i).params ≤ 4) where
   called : (number count : ℕ) → (ltb number (length cs) && eqb count (get_or commands number 0 % 256))
       ≡ (ltb number (length cs) && eqb count (command_at cs number).params)
   called number count =
@@ -136,17 +86,10 @@ arguments_by (suc zero) number args = refl
 arguments_by (suc (suc zero)) number args = refl
 arguments_by (suc (suc (suc kind))) number args = refl
 
--- ---- storing
-
-pub line_stored : (f : List ℕ) (m u v w x : ℕ) (h a : List ℕ) → u ≡ byte_at f 1 → v ≡ byte_at f 2 → w ≡ byte_at f 3 → x ≡ args_code (args_of (drop 4 f))
-    → LineStored f m h a (set h m (u + 256 * v + 65536 * w)) (set a m x)
-line_stored f m u v w x h a is-u is-v is-w is_x = record { head = rw (is-u, is-v, is-w); arguments = rw is_x }
-
 -- ---- the refusals
 module _ (f : List ℕ) (kind : byte_at f 0 ≡ 3) (b : Bool) (is_b : b ≡ line_formed f) where
-  pub line_unformed : b ≡ false → (n m : ℕ) (h a k : List ℕ) (place : ℕ) (s : List ℕ) → 1 ≤ place
-      → Takes place n m f (turn.Refused 4) h a k s h a k s
-  line_unformed unformed n m h a k place s here c counted held =
+  pub line_unformed : b ≡ false → (n m : ℕ) (h a k s : List ℕ) (place : ℕ) → 1 ≤ place → Takes place n m f (turn.Refused 4) h a k s h a k s
+  line_unformed unformed n m h a k s place here c counted held =
       let e : line_formed f ≡ false = sym is_b ∙ unformed in
       refused 4 (is_in_place f (is_line f kind) counted (le-leb 1 place here) ∙ rw e) (λ q. omega arith) held
 
@@ -158,7 +101,8 @@ module _ (f : List ℕ) (kind : byte_at f 0 ≡ 3) (b : Bool) (is_b : b ≡ line
     count : length (args_of (drop 4 f)) ≡ byte_at f 3
     count = arguments_count f (byte_at f 3) tells.whole
 
-    refusal_is : {c : Reading} {place : ℕ} {h a s : List ℕ} → Counted c place n m → Held c.file h a k s → body_refusal c.file line_kind f ≡ x
+    refusal_is : {c : Reading} {place : ℕ} → Counted c place n m → k ≡ padded 32 (map command_code c.file.commands)
+        → body_refusal c.file line_kind f ≡ x
     unfolding line_named
     refusal_is {c} counted held =
         let cs = c.file.commands in
@@ -166,28 +110,30 @@ module _ (f : List ℕ) (kind : byte_at f 0 ≡ 3) (b : Bool) (is_b : b ≡ line
         let same : q ≡ line_names cs m (line_of f) =
         is_q
         ∙ rw (counted.commands_are, ← count)
-        (named_by cs k held.commands_are counted.few_params (byte_at f 1) (byte_at f 2) m (args_of (drop 4 f))) in
+        (named_by cs k held counted.few_params (byte_at f 1) (byte_at f 2) m (args_of (drop 4 f))) in
         rw (e, ← counted.lines_are, is_x, same)
 
-    pub line_refused : (x ≡ 0 → ⊥) → (h a : List ℕ) (place : ℕ) (s : List ℕ) → 1 ≤ place → Takes place n m f (turn.Refused x) h a k s h a k s
-    line_refused some h a place s here c counted held =
-        refused x (is_in_place f (is_line f kind) counted (le-leb 1 place here) ∙ refusal_is counted held) some held
+    pub line_refused : (x ≡ 0 → ⊥) → (h a s : List ℕ) (place : ℕ) → 1 ≤ place → Takes place n m f (turn.Refused x) h a k s h a k s
+    line_refused some h a s place here c counted held =
+        refused x (is_in_place f (is_line f kind) counted (le-leb 1 place here) ∙ refusal_is counted held.commands_are) some held
 
-    pub line_taken : x ≡ 0 → (h a h' a' : List ℕ) → LineStored f m h a h' a' → (place : ℕ) (s : List ℕ) → 1 ≤ place
-        → Takes place n m f turn.Line h a k s h' a' k s
+    pub line_taken : x ≡ 0 → {t t' : FileTables} → LineStored f m t t' → t.commands.now ≡ k → (place : ℕ) → 1 ≤ place
+        → Takes place n m f turn.Line t.heads.now t.arguments.now k t.steps.now t'.heads.now t'.arguments.now t'.commands.now t'.steps.now
     unfolding turn_of
-    line_taken none h a h' a' stored place s here c counted held =
+    line_taken none stored same place here c counted held =
         let args = args_of (drop 4 f) in
         let ls = c.file.lines in
         let room = room_left true q m 1024 x is_x none in
         let head : byte_at f 1 + 256 * byte_at f 2 + 65536 * byte_at f 3 ≡ head_code (line_of f) =
         rw (← count) (head_by (byte_at f 1) (byte_at f 2) args tells.kind (rw count tells.fits)) in
-        let code : args_code args ≡ args_code (args_of_line (line_of f)) = ap args_code (sym (arguments_by (byte_at f 1) (byte_at f 2) args)) in
-        taken f (is_line f kind) (is_in_place f (is_line f kind) counted (le-leb 1 place here) ∙ refusal_is counted held ∙ none) refl
+        let code : args_code args ≡ args_code (args_of_line (line_of f)) =
+        ap args_code (sym (arguments_by (byte_at f 1) (byte_at f 2) args)) in
+        taken f (is_line f kind)
+        (is_in_place f (is_line f kind) counted (le-leb 1 place here) ∙ refusal_is counted held.commands_are ∙ none) refl
         (record {
-          heads_are = stored.head ∙ entry_written head_code 1024 m ls (line_of f) h _ held.heads_are counted.lines_are room head;
+          heads_are = stored.head ∙ entry_written head_code 1024 m ls (line_of f) _ _ held.heads_are counted.lines_are room head;
           arguments_are = stored.arguments
-              ∙ entry_written (λ l. args_code (args_of_line l)) 1024 m ls (line_of f) a _ held.arguments_are counted.lines_are room code;
-          commands_are = held.commands_are;
-          steps_are = held.steps_are;
+              ∙ entry_written (λ l. args_code (args_of_line l)) 1024 m ls (line_of f) _ _ held.arguments_are counted.lines_are room code;
+          commands_are = stored.commands_kept ∙ same ∙ held.commands_are;
+          steps_are = stored.steps_kept ∙ held.steps_are;
         })

@@ -1,14 +1,15 @@
 -- Laws of lists and tests that several subjects share: one element after the other, and lists that are filled up to a length.
 -- Assumes nothing.
-use mathlib.Core.Path.{◌≡◌, refl, sym, ◌∙◌}
+use mathlib.Core.Path.{◌≡◌, refl, sym}
 use mathlib.Core.Bool.{Bool, true, false, ◌&&◌, false≢true}
 use mathlib.Core.List.{List, [], ◌∷◌, ◌++◌, map, map-append, append_assoc, append-nil}
 use Prim.Native.Nat.{ℕ, zero, suc, ◌+◌, ◌-◌, ◌≤◌, ◌<◌}
 use native.Mathlib.Numerals.{add-one}
 use native.Mathlib.Omega.{arith}
 use lib.Dec.{T}
-use lib.ListN.{length, get_or, take, drop, set, replicate, length-append, length-map, length-replicate, replicate-append-replicate, length-drop, drop_of_length-le}
-use lib.Seq.{drop-cons, take-suc, take_at, drop_at, drop-drop, set_at, take_all, length-take-le, get_or-take}
+use lib.ListN.{length, get_or, take, drop, set, replicate, length-append, length-map, length-replicate, replicate-append-replicate}
+use lib.ListN.{length-drop, drop_of_length-le}
+use lib.Seq.{drop-cons, take-suc, take_at, drop_at, drop-drop, set_at, take_all, length-take-le}
 use Rattle.frames.specs.Parts.{filled}
 
 -- ---- one element, and the rest
@@ -23,25 +24,11 @@ take_more z s i h = rw (add-one, take-suc s i z)
 pub whole_rest : {A : Type 0} (k : ℕ) (s : List A) → take (length s - k) (drop k s) ≡ drop k s
 whole_rest k s = take_all (length s - k) (drop k s) (omega (arith, length-drop k s))
 
--- ---- the first n elements, one after the other
-module _ {A : Type 0} (z : A) (n : ℕ) (xs : List A) (room : n ≤ length xs) where
-  pub next_of : (i : ℕ) → i < n → drop i (take n xs) ≡ get_or xs i z ∷ drop (i + 1) (take n xs)
-  next_of i h =
-      let within : i < length (take n xs) = omega (arith, length-take-le n xs room) in
-      drop_more z (take n xs) i within ∙ rw (get_or-take n xs i z h)
-
-  pub none_of : (i : ℕ) → n ≤ i → drop i (take n xs) ≡ []
-  none_of i h = drop_of_length-le (take n xs) {i = i} (omega (arith, length-take-le n xs room))
-
 -- ---- tests
 
 pub is_true : (t : Bool) → T t → t ≡ true
 is_true true h = refl
 is_true false h = absurd h
-
-pub and_false : (b : Bool) → b && false ≡ false
-and_false true = refl
-and_false false = refl
 
 pub both : (a b : Bool) → a && b ≡ true → (a ≡ true) × (b ≡ true)
 both true b e = (refl, e)
@@ -92,7 +79,12 @@ filled_map f k z xs = rw (map-append f xs (replicate (k - length xs) z), length-
 pub over_more : {A : Type 0} (z : A) (xs d : List A) (i : ℕ) → i < length xs → i < length d
     → set (take i xs ++ drop i d) i (get_or xs i z) ≡ take (i + 1) xs ++ drop (i + 1) d
 over_more z xs d i h l =
-    rw (drop_more z d i l, take_more z xs i h, set_at (take i xs) (get_or d i z) (drop (i + 1) d) (get_or xs i z) i (length-take-le i xs (omega arith)))
+    rw (
+      drop_more z d i l,
+      take_more z xs i h,
+      set_at (take i xs) (get_or d i z) (drop (i + 1) d) (get_or xs i z) i
+          (length-take-le i xs (omega arith)),
+    )
     (sym (append_assoc (take i xs) (get_or xs i z ∷ []) (drop (i + 1) d)))
 
 pub over_done : {A : Type 0} (xs d : List A) (i : ℕ) → length xs ≤ i → length d ≤ i → take i xs ++ drop i d ≡ xs

@@ -1,43 +1,34 @@
--- Laws of numbers that are read byte by byte, the highest first.
+-- Big-endian numbers of two and of eight bytes are the model's.
 -- Assumes nothing.
-use mathlib.Core.Path.{◌≡◌, sym, ap, ◌∙◌}
-use mathlib.Core.List.{List}
-use Prim.Native.Nat.{ℕ, ◌+◌, ◌*◌, ◌^◌, ◌≤◌, ◌<◌}
-use native.Mathlib.Numerals.{add-one}
-use native.Mathlib.Nat.{pow-suc, pow-le-pow_right}
+use mathlib.Core.Path.{◌≡◌}
+use mathlib.Core.List.{List, [], ◌∷◌}
+use Prim.Native.Nat.{ℕ}
 use native.Mathlib.Omega.{arith}
-use lib.Dec.{lit<}
-use lib.ListN.{length, get_or, drop, drop_of_length-le}
+use lib.ListN.{length, get_or}
+use Rattle.std.specs.Int.{w16, w64, from_be_bytes}
 use Rattle.model.specs.Text.{number_from}
-use Rattle.frames.specs.Parts.{NumberIs}
-use Rattle.frames.proofs.Lists.{drop_more}
 
--- the invariant of number's loop: n is what the first i bytes say
-pub record Summing (bytes : List ℕ) (n i : ℕ) : Type 0 where
-  pub within : i ≤ length bytes
-  pub few : length bytes ≤ 8
-  pub same : number_from 0 bytes ≡ number_from n (drop i bytes)
-  pub small : n < 256 ^ i
+pub two_bytes : (a b : ℕ) → from_be_bytes w16 (a ∷ b ∷ []) ≡ number_from 0 (a ∷ b ∷ [])
+unfolding number_from
+two_bytes a b = omega arith
 
-module _ {bytes : List ℕ} {n i : ℕ} (v : Summing bytes n i) where
-  module _ (more : i < length bytes) where
-    -- a byte more leaves the number below 2 ^ 64
-    pub sum_small : n < 72057594037927936
-    sum_small =
-        let low : 256 ^ i ≤ 256 ^ 7 = pow-le-pow_right (lit< tt) {i = i} {j = 7} (omega (arith, v.few)) in
-        omega (arith, v.small)
+eight_bytes : (a b c d e f g h : ℕ)
+    → from_be_bytes w64 (a ∷ b ∷ c ∷ d ∷ e ∷ f ∷ g ∷ h ∷ []) ≡ number_from 0 (a ∷ b ∷ c ∷ d ∷ e ∷ f ∷ g ∷ h ∷ [])
+unfolding number_from
+eight_bytes a b c d e f g h = omega arith
 
-    pub sum_turn : get_or bytes i 0 < 256 → Summing bytes (256 * n + get_or bytes i 0) (i + 1)
-    unfolding number_from
-    sum_turn byte = record {
-      within = omega arith;
-      few = v.few;
-      same = v.same ∙ rw (drop_more 0 bytes i more);
-      small = let e : 256 ^ (i + 1) ≡ 256 ^ i * 256 = ap (λ (k : ℕ). 256 ^ k) (add-one i) ∙ pow-suc 256 i in omega (arith, v.small);
-    }
+-- the eight bytes of a list
+abbrev pub eight : List ℕ → List ℕ
+eight s = get_or s 0 0 ∷ get_or s 1 0 ∷ get_or s 2 0 ∷ get_or s 3 0 ∷ get_or s 4 0 ∷ get_or s 5 0 ∷ get_or s 6 0 ∷ get_or s 7 0 ∷ []
 
-  pub sum_done : length bytes ≤ i → NumberIs bytes n
-  unfolding number_from
-  sum_done h =
-      let e : i ≡ length bytes = omega (arith, v.within) in
-      record { value = sym (v.same ∙ rw (drop_of_length-le bytes {i = i} h)); small = rw e at v.small }
+pub number_of : (s : List ℕ) → length s ≡ 8 → from_be_bytes w64 (eight s) ≡ number_from 0 s
+number_of [] n = absurd (omega arith)
+number_of (a ∷ []) n = absurd (omega arith)
+number_of (a ∷ b ∷ []) n = absurd (omega arith)
+number_of (a ∷ b ∷ c ∷ []) n = absurd (omega arith)
+number_of (a ∷ b ∷ c ∷ d ∷ []) n = absurd (omega arith)
+number_of (a ∷ b ∷ c ∷ d ∷ e ∷ []) n = absurd (omega arith)
+number_of (a ∷ b ∷ c ∷ d ∷ e ∷ f ∷ []) n = absurd (omega arith)
+number_of (a ∷ b ∷ c ∷ d ∷ e ∷ f ∷ g ∷ []) n = absurd (omega arith)
+number_of (a ∷ b ∷ c ∷ d ∷ e ∷ f ∷ g ∷ h ∷ []) n = eight_bytes a b c d e f g h
+number_of (a ∷ b ∷ c ∷ d ∷ e ∷ f ∷ g ∷ h ∷ i ∷ s) n = absurd (omega arith)

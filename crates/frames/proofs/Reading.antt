@@ -9,7 +9,9 @@ use lib.Dec.{ltb}
 use lib.ListN.{length, get_or, drop, length-append, length-drop}
 use Rattle.model.specs.Basics.{◌else◌then◌, every}
 use Rattle.model.specs.Step.{Command}
-use Rattle.model.specs.Frame.{File, Reading, Kind, policy_kind, command_kind, line_kind, byte_at, steps_of, command_of, step_formed, returns_last, names_made, command_formed, line_formed, line_names, line_of, nothing_read, kind_of, in_place, body_refusal, frame_refusal, with_frame}
+use Rattle.model.specs.Frame.{File, Reading, Kind, policy_kind, command_kind, line_kind, byte_at, steps_of, command_of, step_formed}
+use Rattle.model.specs.Frame.{returns_last, names_made, command_formed, line_formed, line_names, line_of, nothing_read, kind_of, in_place}
+use Rattle.model.specs.Frame.{body_refusal, frame_refusal, with_frame}
 use Rattle.model.specs.File.{after_frame}
 use Rattle.model.specs.Tables.{Held, zeros, padded, step_codes}
 use Rattle.model.proofs.Tests.{met}
@@ -23,7 +25,8 @@ use Rattle.frames.proofs.Commands.{HeadTells, formed_head}
 -- ---- the start
 
 pub nothing_counted : Counted nothing_read 0 0 0
-nothing_counted = record { place_is = refl; commands_are = refl; lines_are = refl; few_params = λ i. omega arith; few_steps = λ i. omega arith }
+nothing_counted =
+    record { place_is = refl; commands_are = refl; lines_are = refl; few_params = λ i. omega arith; few_steps = λ i. omega arith }
 
 pub nothing_held : Held nothing_read.file (zeros 1024) (zeros 1024) (zeros 32) (zeros 512)
 unfolding padded step_codes
@@ -37,7 +40,8 @@ not_refused c f kind is none = rw is at (met (in_place c.place (kind_of f)) 2 (b
 module _ (φ : File) (f : List ℕ) where
   command_room : body_refusal φ command_kind f ≡ 0 → length φ.commands < 32
   command_room none =
-      room_left (command_formed f) (names_made (byte_at f 1) (command_of f).steps) (length φ.commands) 32 (body_refusal φ command_kind f) refl none
+      room_left (command_formed f) (names_made (byte_at f 1) (command_of f).steps) (length φ.commands) 32 (body_refusal φ command_kind f)
+      refl none
 
   line_room : body_refusal φ line_kind f ≡ 0 → length φ.lines < 1024
   line_room none =
@@ -55,7 +59,8 @@ module _ (φ : File) (f : List ℕ) where
 -- ---- the counts after it
 
 -- what holds at every place of a list holds with one element more
-at_more : {A : Type 0} (P : A → Type 0) (z : A) (xs : List A) (x : A) → ((i : ℕ) → P (get_or xs i z)) → P x → (i : ℕ) → P (get_or (xs ++ x ∷ []) i z)
+at_more : {A : Type 0} (P : A → Type 0) (z : A) (xs : List A) (x : A) → ((i : ℕ) → P (get_or xs i z)) → P x → (i : ℕ)
+    → P (get_or (xs ++ x ∷ []) i z)
 at_more P z [] x all this zero = this
 at_more P z [] x all this (suc i) = all 0
 at_more P z (y ∷ xs) x all this zero = all 0

@@ -53,5 +53,10 @@ unfolding padded command_code
 params_there cs i t few held there =
     let codes = map command_code cs in
     let within : i < length codes = omega (arith, length-map cs command_code) in
-    rw (held, get_or-append codes (replicate (32 - length codes) 0) 0 i within, get_or-map command_code cs i (record { params = 0; steps = [] }))
+    rw (
+      held,
+      get_or-append codes (replicate (32 - length codes) 0) 0 i within,
+      get_or-map command_code cs i
+          (record { params = 0; steps = [] }),
+    )
     (omega (arith, few i))

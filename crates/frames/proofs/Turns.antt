@@ -2,31 +2,27 @@
 -- Assumes nothing.
 use mathlib.Core.Path.{◌≡◌, refl, sym, ap, ◌∙◌, subst}
 use mathlib.Core.Bool.{Bool, true, false}
-use mathlib.Core.List.{List, [], ◌∷◌}
+use mathlib.Core.List.{List}
 use Prim.Native.Nat.{ℕ, zero, suc, ◌≤◌, ◌<◌}
 use native.Mathlib.Omega.{arith}
 use lib.Dec.{ltb}
-use lib.ListN.{get_or}
-use borrow.Author.Tests.{ltb-true, ne_eqb, lt-leb}
+use borrow.Author.Tests.{ltb-true, eqb-true, leb-true}
+use Rattle.model.specs.declared.Fault.{Fault}
+use Rattle.model.specs.declared.Fault.TheVariants.{TooLong, BadLine, Misplaced, Malformed, TooMany, NotThere, Unlawful, WrongTables}
+use Rattle.model.specs.Numbers.{fault_number}
 use Rattle.model.specs.Basics.{◌else◌then◌}
-use Rattle.model.specs.Frame.{Reading, Kind, byte_at, policy_kind, command_kind, line_kind, other_kind, kind_of, in_place, body_refusal, frame_refusal, with_frame}
+use Rattle.model.specs.Frame.{Reading, Kind, byte_at, policy_kind, command_kind, line_kind, kind_of, in_place, body_refusal, frame_refusal}
+use Rattle.model.specs.Frame.{with_frame}
 use Rattle.model.specs.Tables.{Held}
 use Rattle.model.proofs.Tests.{met}
-use Rattle.frames.specs.Turn.{turn_of, filed, Counted, TurnIs}
+use Rattle.frames.specs.Turn.{Turn, turn_of, filed, Counted, TurnIs}
 use Rattle.frames.specs.Parts.{Takes}
-use Rattle.frames.specs.declared.Turn.{Turn}
-use Rattle.frames.specs.declared.Turn.TheVariants as turn
+use Rattle.frames.specs.Turn as turn
 use Rattle.frames.proofs.Lists.{is_true}
 
-no_kind : (b : ℕ) → (b ≡ 1 → ⊥) → (b ≡ 2 → ⊥) → (b ≡ 3 → ⊥) → get_or (other_kind ∷ policy_kind ∷ command_kind ∷ line_kind ∷ []) b other_kind ≡ other_kind
-no_kind zero p c l = refl
-no_kind (suc zero) p c l = absurd (p refl)
-no_kind (suc (suc zero)) p c l = absurd (c refl)
-no_kind (suc (suc (suc zero))) p c l = absurd (l refl)
-no_kind (suc (suc (suc (suc b)))) p c l = refl
-
 -- the answer and the tables, by what the refusal is
-turn_by : {c : Reading} {f h a k s : List ℕ} {r : Turn} (x : ℕ) → frame_refusal c f ≡ x → r ≡ turn_of x (kind_of f) f → Held (filed x c f) h a k s
+turn_by : {c : Reading} {f h a k s : List ℕ} {r : Turn} (x : ℕ) → frame_refusal c f ≡ x → r ≡ turn_of x (kind_of f) f
+    → Held (filed x c f) h a k s
     → TurnIs c f r h a k s
 turn_by {c} {f} {h} {a} {k} {s} x e is held = record {
   answer = is ∙ ap (λ (y : ℕ). turn_of y (kind_of f) f) (sym e);
@@ -39,6 +35,17 @@ pub refused : {c : Reading} {f h a k s : List ℕ} (x : ℕ) → frame_refusal c
 unfolding turn_of
 refused zero e some held = absurd (some refl)
 refused (suc x) e some held = turn_by (suc x) e refl held
+
+-- a refusal's number is not 0
+pub some_number : (e : Fault) → fault_number e ≡ 0 → ⊥
+some_number TooLong e = omega arith
+some_number BadLine e = omega arith
+some_number Misplaced e = omega arith
+some_number Malformed e = omega arith
+some_number TooMany e = omega arith
+some_number NotThere e = omega arith
+some_number Unlawful e = omega arith
+some_number WrongTables e = omega arith
 
 -- what is not refused has room
 pub room_left : (p q : Bool) (n most x : ℕ) → x ≡ (p else 4 then ltb n most else 5 then q else 6 then 0) → x ≡ 0 → n < most
@@ -58,9 +65,6 @@ module _ (f : List ℕ) where
   pub is_line : byte_at f 0 ≡ 3 → kind_of f ≡ line_kind
   is_line h = rw h
 
-  is_other : (byte_at f 0 ≡ 1 → ⊥) → (byte_at f 0 ≡ 2 → ⊥) → (byte_at f 0 ≡ 3 → ⊥) → kind_of f ≡ other_kind
-  is_other p c l = no_kind (byte_at f 0) p c l
-
 module _ (f : List ℕ) {c : Reading} {kind : Kind} (is : kind_of f ≡ kind) where
   pub taken : {h a k s : List ℕ} {r : Turn} → frame_refusal c f ≡ 0 → r ≡ turn_of 0 kind f → Held (with_frame c.file kind f).file h a k s
       → TurnIs c f r h a k s
@@ -72,22 +76,17 @@ module _ (f : List ℕ) {c : Reading} {kind : Kind} (is : kind_of f ≡ kind) wh
     pub is_in_place : in_place place kind ≡ true → frame_refusal c f ≡ body_refusal c.file kind f
     is_in_place here = rw (is, ← counted.place_is, here)
 
-    out_of_place : in_place place kind ≡ false → {h a k s : List ℕ} → Held c.file h a k s → TurnIs c f (turn.Refused 3) h a k s
-    out_of_place here held = refused 3 (rw (is, ← counted.place_is, here)) (λ q. omega arith) held
+-- ---- a frame in its place, or out of it
 
--- ---- a frame out of its place
-module _ (f : List ℕ) (place n m : ℕ) (h a k s : List ℕ) where
-  pub policy_late : byte_at f 0 ≡ 1 → (place ≡ 0 → ⊥) → Takes place n m f (turn.Refused 3) h a k s h a k s
-  policy_late kind later c counted held = out_of_place f (is_policy f kind) counted (ne_eqb place 0 later) held
+pub misplaced : (f : List ℕ) (place n m : ℕ) (h a k s : List ℕ) → in_place place (kind_of f) ≡ false
+    → Takes place n m f (turn.Refused 3) h a k s h a k s
+misplaced f place n m h a k s out c counted held = refused 3 (rw (← counted.place_is, out)) (λ q. omega arith) held
 
-  pub command_misplaced : byte_at f 0 ≡ 2 → (place ≡ 1 → ⊥) → Takes place n m f (turn.Refused 3) h a k s h a k s
-  command_misplaced kind other c counted held = out_of_place f (is_command f kind) counted (ne_eqb place 1 other) held
+pub command_place : (f : List ℕ) (place : ℕ) → byte_at f 0 ≡ 2 → in_place place (kind_of f) ≡ true → place ≡ 1
+command_place f place kind here = eqb-true place 1 (rw (is_command f kind) at here)
 
-  pub line_early : byte_at f 0 ≡ 3 → place ≤ 0 → Takes place n m f (turn.Refused 3) h a k s h a k s
-  line_early kind early c counted held = out_of_place f (is_line f kind) counted (lt-leb 1 place (omega arith)) held
-
-  pub kind_unknown : (byte_at f 0 ≡ 1 → ⊥) → (byte_at f 0 ≡ 2 → ⊥) → (byte_at f 0 ≡ 3 → ⊥) → Takes place n m f (turn.Refused 3) h a k s h a k s
-  kind_unknown p c l r counted held = out_of_place f (is_other f p c l) counted refl held
+pub line_place : (f : List ℕ) (place : ℕ) → byte_at f 0 ≡ 3 → in_place place (kind_of f) ≡ true → 1 ≤ place
+line_place f place kind here = leb-true 1 place (rw (is_line f kind) at here)
 
 -- the place by another name
 pub placed : {c : Reading} {p q n m : ℕ} → Counted c p n m → p ≡ q → Counted c q n m

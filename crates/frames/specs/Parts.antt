@@ -1,24 +1,14 @@
--- What the inner functions promise: numbers, decoded steps, and a frame of which the place is known.
-use Rattle.std.specs.Prelude.{ℕ, ◌+◌, ◌-◌, ◌*◌, ◌%◌, ◌<◌, ◌^◌, ◌≡◌, Bool, true, cond, ◌&&◌, List, [], ◌∷◌, ◌++◌, map, leb, ltb, eqb, length, take, drop, get_or, set, replicate}
+-- What the inner functions promise: decoded steps and arguments, and a frame of which the place is known.
+use Rattle.std.specs.Prelude.{ℕ, ◌+◌, ◌-◌, ◌*◌, ◌%◌, ◌<◌, ◌≡◌, Bool, true, cond, ◌&&◌, List, [], ◌∷◌, ◌++◌, map, leb, ltb, eqb, length}
+use Rattle.std.specs.Prelude.{take, drop, get_or, set, replicate}
 use Rattle.model.specs.Basics.{every}
-use Rattle.model.specs.declared.Use.{Use as ModelUse}
-use Rattle.model.specs.declared.Use.TheVariants as model
-use Rattle.model.specs.declared.Fields.{Fields as ModelFields}
 use Rattle.model.specs.Text.{number_from}
 use Rattle.model.specs.Frame.{Reading, byte_at, steps_of, args_of, arg_names}
 use Rattle.model.specs.Tables.{Held, step_code, args_code}
 use Rattle.model.specs.declared.Step.{Step}
-use Rattle.frames.specs.Turn.{Counted, TurnIs}
-use Rattle.frames.specs.declared.Turn.{Turn}
+use Rattle.frames.specs.Turn.{Turn, Counted, TurnIs}
+use Rattle.frames.specs.declared.file_tables.FileTables.{FileTables}
 use Rattle.frames.specs.declared.command.Command.{Command}
-use Rattle.frames.specs.declared.step.Use.{Use}
-use Rattle.frames.specs.declared.step.Use.TheVariants.{Nothing, Value, Attributes, Label}
-use Rattle.frames.specs.declared.step.Fields.{Fields}
-
--- a number and how large it can be
-pub record NumberIs (bytes : List ℕ) (n : ℕ) : Type 0 where
-  pub value : n ≡ number_from 0 bytes
-  pub small : n < 256 ^ length bytes
 
 abbrev pub step_at : List ℕ → ℕ → Step
 step_at part i = record { op = byte_at part i; a = byte_at part (i + 1); b = byte_at part (i + 2); t = byte_at part (i + 3) }
@@ -36,24 +26,16 @@ pub record DecodedAs (part : List ℕ) (params count : ℕ) (r : Command) : Type
   pub count_is : r.count ≡ count
   pub steps_are : r.steps ≡ filled 16 no_step (steps_of part)
 
--- the model's words for the uses of a step's fields
-abbrev pub meant : Use → ModelUse
-meant Nothing = model.Nothing
-meant Value = model.Operand
-meant Attributes = model.Attributes
-meant Label = model.Label
-
-abbrev pub fields_meant : Fields → ModelFields
-fields_meant u = record { a = meant u.0; b = meant u.1; t = meant u.2 }
-
 -- a command's first bytes and its length
 unfoldable pub head_formed : List ℕ → Bool
 head_formed f = leb (byte_at f 1) 4 && leb 1 (byte_at f 2) && leb (byte_at f 2) 16 && eqb (length f) (3 + 4 * byte_at f 2)
 
--- command n in the two tables of commands
-pub record CommandStored (c : Command) (n : ℕ) (k s k' s' : List ℕ) : Type 0 where
-  pub entry : k' ≡ set k n (c.params + 256 * c.count)
-  pub places : s' ≡ take (16 * n) s ++ map step_code c.steps ++ drop (16 * n + 16) s
+-- command n in the two tables of commands; the others are as they were
+pub record CommandStored (c : Command) (n : ℕ) (t t' : FileTables) : Type 0 where
+  pub entry : t'.commands.now ≡ set t.commands.now n (c.params + 256 * c.count)
+  pub places : t'.steps.now ≡ take (16 * n) t.steps.now ++ map step_code c.steps ++ drop (16 * n + 16) t.steps.now
+  pub heads_kept : t'.heads.now ≡ t.heads.now
+  pub arguments_kept : t'.arguments.now ≡ t.arguments.now
 
 -- argument i of a line, two bytes
 pub record ArgumentIs (f : List ℕ) (i x : ℕ) : Type 0 where
@@ -66,12 +48,18 @@ line_named f n m commands =
     cond (eqb (byte_at f 1) 0) (ltb (byte_at f 2) n && eqb (byte_at f 3) (get_or commands (byte_at f 2) 0 % 256)) true
     && every (arg_names m) (args_of (drop 4 f))
 
--- line m in the two tables of lines
-pub record LineStored (f : List ℕ) (m : ℕ) (h a h' a' : List ℕ) : Type 0 where
-  pub head : h' ≡ set h m (byte_at f 1 + 256 * byte_at f 2 + 65536 * byte_at f 3)
-  pub arguments : a' ≡ set a m (args_code (args_of (drop 4 f)))
+-- line m in the two tables of lines; the others are as they were
+pub record LineStored (f : List ℕ) (m : ℕ) (t t' : FileTables) : Type 0 where
+  pub head : t'.heads.now ≡ set t.heads.now m (byte_at f 1 + 256 * byte_at f 2 + 65536 * byte_at f 3)
+  pub arguments : t'.arguments.now ≡ set t.arguments.now m (args_code (args_of (drop 4 f)))
+  pub commands_kept : t'.commands.now ≡ t.commands.now
+  pub steps_kept : t'.steps.now ≡ t.steps.now
 
 -- a frame at this place after n commands and m lines is taken as the model says, whatever those are
 abbrev pub Takes : ℕ → ℕ → ℕ → List ℕ → Turn → List ℕ → List ℕ → List ℕ → List ℕ → List ℕ → List ℕ → List ℕ → List ℕ → Type 0
 Takes place n m f r h a k s h' a' k' s' =
     (c : Reading) → Counted c place n m → Held c.file h a k s → TurnIs c f r h' a' k' s'
+
+abbrev pub TakesIn : ℕ → ℕ → ℕ → List ℕ → Turn → FileTables → FileTables → Type 0
+TakesIn place n m f r t t' =
+    Takes place n m f r t.heads.now t.arguments.now t.commands.now t.steps.now t'.heads.now t'.arguments.now t'.commands.now t'.steps.now

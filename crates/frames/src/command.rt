@@ -1,13 +1,15 @@
 // A command frame: its steps decoded, checked, and stored in the tables.
-ghost use Rattle.std.specs.Prelude.{◌≡◌, ◌&&◌, List, map, ℕ, ◌+◌, ◌*◌, ◌≤◌, ◌<◌, length, take};
+ghost use Rattle.std.specs.Prelude.{◌≡◌, ◌&&◌, List, map, ℕ, ◌+◌, ◌*◌, ◌≤◌, ◌<◌, eqb, length, position};
+ghost use Rattle.std.specs.List.{list_all};
 ghost use Rattle.model.specs.Basics.{every};
 ghost use Rattle.model.specs.Frame.{byte_at, step_formed, returns_last, names_made};
 ghost use Rattle.model.specs.Tables.{step_code};
-ghost use Rattle.frames.specs.Parts.{DecodedAs, head_formed, CommandStored, Takes};
+ghost use Rattle.frames.specs.Turn.{turn_told, SameReferences};
+ghost use Rattle.frames.specs.Parts.{DecodedAs, head_formed, CommandStored, TakesIn};
 
 use crate::step::{step_at, step_code, step_formed, step_names};
-use crate::{Turn, lowest, wide};
-use model::Step;
+use crate::{FileTables, Turn, lowest};
+use model::{Fault, Step};
 
 // A decoded command: how many parameters and steps it has, and the steps; the places behind them are zero.
 #[derive(Clone, Copy)]
@@ -18,6 +20,7 @@ pub struct Command {
 }
 
 // The step decoder: it is handed the step bytes alone.
+#[tactic(auto, using(crate::proofs::Steps::decode_turn, crate::proofs::Steps::decode_done))]
 pub fn decode(part: &[u8], params: u8, count: u8) -> Command
     requires { (length part.now ≡ 4 * count) × (count ≤ 16) }
     ensures { DecodedAs part.now params count result }
@@ -29,12 +32,8 @@ pub fn decode(part: &[u8], params: u8, count: u8) -> Command
         t: 0,
     };
     let mut steps = [none; 16];
-    let n = count as usize;
-    let mut i: usize = 0;
-    while i < n {
-        let s = step_at(part, 4 * i);
-        steps[i] = s;
-        i += 1;
+    for i in 0..usize::from(count) {
+        steps[i] = step_at(part, 4 * i);
     }
     Command {
         params,
@@ -43,113 +42,92 @@ pub fn decode(part: &[u8], params: u8, count: u8) -> Command
     }
 }
 
-fn returns_last(c: Command) -> bool
-    requires { (1 ≤ c.count) × (c.count ≤ 16) }
-    ensures { result ≡ returns_last (take c.count c.steps) }
+// The first return, which has op 0.
+fn first_return(steps: &[Step]) -> Option<usize>
+    ensures { result ≡ position (λ s. eqb s.op 0) steps.now }
 {
-    let last = c.count as usize - 1;
-    let mut i: usize = 0;
-    while i < last {
-        let s = c.steps[i];
-        if s.op == 0 {
-            return false;
-        }
-        i += 1;
+    steps.iter().position(|s| s.op == 0)
+}
+
+// Return is the last step and only the last.
+#[tactic(auto, using(crate::proofs::Steps::returns_first, crate::proofs::Steps::returns_never))]
+fn returns_last(steps: &[Step]) -> bool
+    ensures { result ≡ returns_last steps.now }
+{
+    match first_return(steps) {
+        Some(i) => i + 1 == steps.len(),
+        None => false,
     }
-    let s = c.steps[last];
-    s.op == 0
+}
+
+fn all_formed(steps: &[Step]) -> bool
+    ensures { result ≡ list_all step_formed steps.now }
+{
+    steps.iter().all(|s| step_formed(*s))
 }
 
 // Each step is formed, and return is the last step and only the last.
-fn steps_formed(c: Command) -> bool
-    requires { (1 ≤ c.count) × (c.count ≤ 16) }
-    ensures { result ≡ (every step_formed (take c.count c.steps) && returns_last (take c.count c.steps)) }
+fn steps_formed(steps: &[Step]) -> bool
+    ensures { result ≡ (every step_formed steps.now && returns_last steps.now) }
 {
-    let n = c.count as usize;
-    let mut i: usize = 0;
-    while i < n {
-        let s = c.steps[i];
-        if !step_formed(s) {
-            return false;
-        }
-        i += 1;
-    }
-    returns_last(c)
+    all_formed(steps) && returns_last(steps)
 }
 
-fn names_made(c: Command) -> bool
-    requires { c.count ≤ 16 }
-    ensures { result ≡ names_made c.params (take c.count c.steps) }
+// Each step names parameters or values of steps before it.
+#[tactic(auto, using(crate::proofs::Steps::names_turn, crate::proofs::Steps::names_fails, crate::proofs::Steps::names_done))]
+fn names_made(params: u8, steps: &[Step]) -> bool
+    requires { length steps.now ≤ 16 }
+    ensures { result ≡ names_made params steps.now }
 {
-    let n = c.count as usize;
-    let p = c.params as usize;
-    let mut i: usize = 0;
-    while i < n {
-        let s = c.steps[i];
-        if !step_names(p + i, s) {
+    for (i, s) in steps.iter().enumerate() {
+        if !step_names(usize::from(params) + i, *s) {
             return false;
         }
-        i += 1;
     }
     true
 }
 
 // Whether a command's first bytes and length are formed.
+#[tactic(auto, unfolding(crate::specs::Parts::head_formed))]
 fn head_formed(f: &[u8]) -> bool
     ensures { result ≡ head_formed f.now }
 {
-    if f.len() < 3 {
-        return false;
-    }
-    if f[1] > 4 {
-        return false;
-    }
-    if f[2] < 1 {
-        return false;
-    }
-    if f[2] > 16 {
-        return false;
-    }
-    let n = f[2] as usize;
-    f.len() == 3 + 4 * n
+    f.len() >= 3 && f[1] <= 4 && f[2] >= 1 && f[2] <= 16 && f.len() == 3 + 4 * usize::from(f[2])
 }
 
 // A command's own sixteen places.
-fn store_steps(c: Command, part: &mut [u64])
+#[tactic(auto, using(crate::proofs::Steps::store_turn, crate::proofs::Steps::store_done))]
+fn store_steps(steps: &[Step; 16], part: &mut [u64])
     requires { length part.old ≡ 16 }
-    ensures { part.new ≡ map step_code c.steps }
+    ensures { part.new ≡ map step_code steps.now }
 {
-    let mut i: usize = 0;
-    while i < 16 {
-        let s = c.steps[i];
-        part[i] = step_code(s);
-        i += 1;
+    for (i, s) in steps.iter().enumerate() {
+        part[i] = step_code(*s);
     }
 }
 
 // Command n, in its entry and its sixteen places.
-fn store_command(c: Command, n: usize, commands: &mut [u64], steps: &mut [u64])
-    requires { (n < 32) × (length commands.old ≡ 32) × (length steps.old ≡ 512) }
-    ensures { CommandStored c n commands.old steps.old commands.new steps.new }
+fn store_command(c: Command, n: usize, tables: &mut FileTables<'_>)
+    requires { n < 32 }
+    ensures stored { CommandStored c n tables.old tables.new }
+    ensures same_references { SameReferences tables.old tables.new }
 {
-    commands[n] = wide(c.params) + 256 * wide(c.count);
-    let a = 16 * n;
-    let e = a + 16;
-    store_steps(c, &mut steps[a..e]);
+    tables.commands[n] = u64::from(c.params) + 256 * u64::from(c.count);
+    store_steps(&c.steps, &mut tables.steps[16 * n..16 * n + 16]);
 }
 
-pub fn command_turn(f: &[u8], n: usize, commands: &mut [u64], steps: &mut [u64]) -> Turn
-    requires { (byte_at f.now 0 ≡ 2) × (length commands.old ≡ 32) × (length steps.old ≡ 512) }
-    ensures { (m : ℕ) (h a : List ℕ) → Takes 1 n m f.now result h a commands.old steps.old h a commands.new steps.new }
+#[tactic(auto, using(crate::proofs::Commands::head_whole, crate::proofs::Commands::head_some, crate::proofs::Commands::head_few))]
+pub fn command_turn(f: &[u8], n: usize, tables: &mut FileTables<'_>) -> Result<Turn, Fault>
+    requires { byte_at f.now 0 ≡ 2 }
+    ensures answer { (m : ℕ) → TakesIn 1 n m f.now (turn_told result) tables.old tables.new }
+    ensures same_references { SameReferences tables.old tables.new }
 {
     if !head_formed(f) {
-        return Turn::Refused(4);
+        return Err(Fault::Malformed);
     }
     let c = decode(&f[3..], f[1], f[2]);
-    let refusal = lowest(steps_formed(c), n < 32, names_made(c));
-    if refusal != 0 {
-        return Turn::Refused(refusal);
-    }
-    store_command(c, n, commands, steps);
-    Turn::Command
+    let steps = &c.steps[..usize::from(c.count)];
+    lowest(steps_formed(steps), n < 32, names_made(c.params, steps))?;
+    store_command(c, n, tables);
+    Ok(Turn::Command)
 }

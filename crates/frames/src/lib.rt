@@ -2,99 +2,89 @@
 #![tactic(auto)]
 
 mod command;
+mod file_tables;
 mod line;
 mod policy;
 mod step;
 
-ghost use Rattle.std.specs.Prelude.{◌≡◌, ◌+◌, ◌*◌, ◌≤◌, ◌<◌, length};
+ghost use Rattle.std.specs.Prelude.{◌≡◌, ◌<◌, length};
 ghost use Rattle.model.specs.Basics.{◌else◌then◌};
-ghost use Rattle.model.specs.Frame.{Reading};
-ghost use Rattle.model.specs.Tables.{Held};
-ghost use Rattle.frames.specs.Turn.{Counted, Ready, TurnIs};
-ghost use Rattle.frames.specs.Parts.{NumberIs};
+ghost use Rattle.model.specs.Frame.{Reading, kind_of, in_place};
+ghost use Rattle.frames.specs.Turn.{place_number, turn_told, refusal_told, Counted, Ready, HeldIn, SameReferences, TurnIn};
 
 use crate::command::command_turn;
+pub use crate::file_tables::FileTables;
 use crate::line::line_turn;
 use crate::policy::policy_turn;
+use model::{Fault, Policy};
 
-// What a frame comes to: its refusal; the transported type's code and the set of allowed templates; a command or a
-// session line, which stands in the tables now.
-#[derive(Clone, Copy)]
+// What a frame comes to that is taken: the policy; a command or a session line, which stands in the tables now.
+#[derive(Clone, Copy, PartialEq, Eq, Debug)]
 pub enum Turn {
-    Refused(usize),
-    Policy(u8, u64),
+    Policy(Policy),
     Command,
     Line,
 }
 
-// Numbers are big-endian.
-fn number(part: &[u8]) -> u64
-    requires { length part.now ≤ 8 }
-    ensures { NumberIs part.now result }
-{
-    let mut n: u64 = 0;
-    let mut i: usize = 0;
-    while i < part.len() {
-        n = 256 * n + part[i] as u64;
-        i += 1;
-    }
-    n
+// What may come next: the policy, after it commands, and after a session line no more than session lines.
+#[derive(Clone, Copy, PartialEq, Eq, Debug)]
+pub enum Place {
+    Start,
+    Commands,
+    Lines,
 }
 
-// The refusal of a command or a session line that was read, the lowest that it earns, or 0.
-fn lowest(formed: bool, room: bool, named: bool) -> usize
-    ensures { result ≡ (formed else 4 then room else 5 then named else 6 then 0) }
-{
-    if formed {
-        if room {
-            if named {
-                return 0;
-            }
-            return 6;
+impl Place {
+    // Whether a frame of this kind, which its first byte tells, may come now.
+    fn allows(self, f: &[u8]) -> bool
+        requires { 0 < length f.now }
+        ensures { result ≡ in_place (place_number self) (kind_of f.now) }
+    {
+        match self {
+            Place::Start => f[0] == 1,
+            Place::Commands => f[0] == 2 || f[0] == 3,
+            Place::Lines => f[0] == 3,
         }
-        return 5;
     }
-    return 4;
 }
 
-fn wide(b: u8) -> u64
-    ensures { (result ≡ b) × (result < 256) }
-{
-    b as u64
+// What was read before a frame: the place where it leaves the reader, and how many commands and session lines it had.
+#[derive(Clone, Copy, PartialEq, Eq, Debug)]
+pub struct Counts {
+    pub place: Place,
+    pub commands: usize,
+    pub lines: usize,
 }
 
-// Any frame, after n commands and m session lines; place is 0 before the policy, 1 after it, 2 after a session line.
-pub fn take_frame(
-    f: &[u8],
-    place: u8,
-    n: usize,
-    m: usize,
-    heads: &mut [u64],
-    arguments: &mut [u64],
-    commands: &mut [u64],
-    steps: &mut [u64],
-) -> Turn
-    requires { Ready f.now n m heads.old arguments.old commands.old steps.old }
-    ensures { (c : Reading) → Counted c place n m → Held c.file heads.old arguments.old commands.old steps.old → TurnIs c f.now result heads.new arguments.new commands.new steps.new }
+// The refusal of a command or a session line, the one with the lowest number that it earns.
+fn lowest(formed: bool, room: bool, named: bool) -> Result<(), Fault>
+    ensures { refusal_told result ≡ (formed else 4 then room else 5 then named else 6 then 0) }
 {
-    let kind = f[0];
-    if kind == 1 {
-        if place == 0 {
-            return policy_turn(f);
-        }
-        return Turn::Refused(3);
+    if !formed {
+        return Err(Fault::Malformed);
     }
-    if kind == 2 {
-        if place == 1 {
-            return command_turn(f, n, commands, steps);
-        }
-        return Turn::Refused(3);
+    if !room {
+        return Err(Fault::TooMany);
     }
-    if kind == 3 {
-        if 0 < place {
-            return line_turn(f, n, m, heads, arguments, &commands[..]);
-        }
-        return Turn::Refused(3);
+    if !named {
+        return Err(Fault::NotThere);
     }
-    Turn::Refused(3)
+    Ok(())
+}
+
+// Any frame, after what was read before it.
+pub fn take_frame(f: &[u8], counts: Counts, tables: &mut FileTables<'_>) -> Result<Turn, Fault>
+    requires { Ready f.now counts }
+    ensures answer { (c : Reading) → Counted c (place_number counts.place) counts.commands counts.lines → HeldIn c.file tables.old
+        → TurnIn c f.now (turn_told result) tables.new }
+    ensures same_references { SameReferences tables.old tables.new }
+{
+    if !counts.place.allows(f) {
+        return Err(Fault::Misplaced);
+    }
+    match f[0] {
+        1 => policy_turn(f),
+        2 => command_turn(f, counts.commands, tables),
+        _ => line_turn(f, counts.commands, counts.lines, tables),
+    }
 }

@@ -1,26 +1,10 @@
-// One step of a command: what its fields hold, whether they are well formed and name values that are there, and its number in the table.
-ghost use Rattle.std.specs.Prelude.{◌≡◌, ℕ, ◌+◌, ◌*◌, ◌≤◌, ◌<◌, length, get_or};
-ghost use Rattle.model.specs.Step.{ops, fields_of};
-ghost use Rattle.model.specs.declared.Op.TheVariants.{Unknown};
+// One step of a command: whether its fields are well formed and name values that are there, and its number in the table.
+ghost use Rattle.std.specs.Prelude.{◌≡◌, ℕ, ◌+◌, ◌≤◌, length};
 ghost use Rattle.model.specs.Frame.{field_formed, field_names, step_formed, step_names};
 ghost use Rattle.model.specs.Tables.{step_code};
-ghost use Rattle.frames.specs.Parts.{step_at, meant, fields_meant};
+ghost use Rattle.frames.specs.Parts.{step_at};
 
-use crate::wide;
-use model::Step;
-
-// What one field of a step holds.
-#[derive(Clone, Copy)]
-enum Use {
-    Nothing,
-    Value,
-    Attributes,
-    Label,
-}
-
-// What the fields a, b and t of a step hold.
-#[derive(Clone, Copy)]
-struct Fields(Use, Use, Use);
+use model::{Op, Step, Use};
 
 pub fn step_at(part: &[u8], at: usize) -> Step
     requires { at + 4 ≤ length part.now }
@@ -34,78 +18,48 @@ pub fn step_at(part: &[u8], at: usize) -> Step
     }
 }
 
-fn fields_of(op: u8) -> Fields
-    ensures { (t : ℕ) → fields_meant result ≡ fields_of (get_or (ops t) op Unknown) }
-{
-    match op {
-        0 => Fields(Use::Value, Use::Nothing, Use::Nothing),
-        1 => Fields(Use::Value, Use::Nothing, Use::Attributes),
-        2 => Fields(Use::Nothing, Use::Nothing, Use::Attributes),
-        3 => Fields(Use::Value, Use::Nothing, Use::Attributes),
-        4 => Fields(Use::Value, Use::Value, Use::Nothing),
-        5 => Fields(Use::Value, Use::Value, Use::Nothing),
-        6 => Fields(Use::Nothing, Use::Value, Use::Label),
-        _ => Fields(Use::Nothing, Use::Nothing, Use::Nothing),
-    }
-}
-
 fn field_formed(u: Use, x: u8) -> bool
-    ensures { result ≡ field_formed (meant u) x }
+    ensures { result ≡ field_formed u x }
 {
     match u {
         Use::Nothing => x == 0,
-        Use::Value => true,
+        Use::Operand => true,
         Use::Attributes => x < 64,
         Use::Label => x < 2,
     }
 }
 
 fn field_names(n: usize, u: Use, x: u8) -> bool
-    ensures { result ≡ field_names n (meant u) x }
+    ensures { result ≡ field_names n u x }
 {
     match u {
-        Use::Nothing => true,
-        Use::Value => (x as usize) < n,
-        Use::Attributes => true,
-        Use::Label => true,
+        Use::Operand => usize::from(x) < n,
+        Use::Nothing | Use::Attributes | Use::Label => true,
     }
 }
 
 pub fn step_formed(s: Step) -> bool
     ensures { result ≡ step_formed s }
 {
-    let op = s.op;
-    if op > 6 {
-        return false;
-    }
-    let fields = fields_of(op);
-    let a = fields.0;
-    let b = fields.1;
-    let t = fields.2;
-    if !field_formed(a, s.a) {
-        return false;
-    }
-    if !field_formed(b, s.b) {
-        return false;
-    }
-    field_formed(t, s.t)
+    let op = s.op();
+    let fields = op.fields();
+    op != Op::Unknown
+        && field_formed(fields.a, s.a)
+        && field_formed(fields.b, s.b)
+        && field_formed(fields.t, s.t)
 }
 
 // Whether a step names only values among the first n.
 pub fn step_names(n: usize, s: Step) -> bool
     ensures { result ≡ step_names n s }
 {
-    let fields = fields_of(s.op);
-    let a = fields.0;
-    let b = fields.1;
-    if !field_names(n, a, s.a) {
-        return false;
-    }
-    field_names(n, b, s.b)
+    let fields = s.op().fields();
+    field_names(n, fields.a, s.a) && field_names(n, fields.b, s.b)
 }
 
+#[tactic(auto, unfolding(model::specs::Tables::step_code))]
 pub fn step_code(s: Step) -> u64
     ensures { result ≡ step_code s }
 {
-    wide(s.op) + 256 * wide(s.a) + 65536 * wide(s.b) + 16777216 * wide(s.t)
+    u64::from(s.op) + 256 * u64::from(s.a) + 65536 * u64::from(s.b) + 16777216 * u64::from(s.t)
 }

@@ -33,7 +33,6 @@ impl From<u64> for KeyRecord {
 
 // The place of the first stored key whose handle is in row x.
 fn find_handle(keys: &Filled<'_>, x: usize) -> Option<usize>
-    requires { keys.now.len ≤ length keys.now.table.now }
     ensures { result ≡ position (λ code. eqb x (handle_of code)) (take keys.now.len keys.now.table.now) }
 {
     keys.used()
@@ -43,7 +42,7 @@ fn find_handle(keys: &Filled<'_>, x: usize) -> Option<usize>
 
 // The records of the stored keys; those after them are empty.
 fn records(keys: &Filled<'_>) -> [KeyRecord; 256]
-    requires { (keys.now.len ≤ length keys.now.table.now) × (length keys.now.table.now ≤ 256) }
+    requires { length keys.now.table.now ≤ 256 }
     ensures { result ≡ records_of keys.now.table.now keys.now.len }
 {
     let mut recs = [KeyRecord::default(); 256];
@@ -64,7 +63,7 @@ fn lookup(recs: &[KeyRecord], i: usize) -> KeyRecord
 // The stored key at place i: the records are made here, and lent for the lookup.
 #[tactic(auto, using(crate::proofs::Unpacking::record_at))]
 fn found_at(keys: &Filled<'_>, i: usize) -> KeyRecord
-    requires { (keys.now.len ≤ length keys.now.table.now) × (length keys.now.table.now ≤ 256) × (i < keys.now.len) }
+    requires { (length keys.now.table.now ≤ 256) × (i < keys.now.len) }
     ensures { result ≡ record_of (get_or keys.now.table.now i 0) }
 {
     let recs = records(keys);
@@ -73,7 +72,7 @@ fn found_at(keys: &Filled<'_>, i: usize) -> KeyRecord
 
 // The first stored key whose handle is in row x.
 pub fn stored(keys: &Filled<'_>, x: usize) -> Option<KeyRecord>
-    requires { (keys.now.len ≤ length keys.now.table.now) × (length keys.now.table.now ≤ 256) }
+    requires { length keys.now.table.now ≤ 256 }
     ensures { result ≡ stored_of keys.now.table.now keys.now.len x }
 {
     let i = find_handle(keys, x)?;

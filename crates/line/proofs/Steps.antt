@@ -1,10 +1,12 @@
--- The steps of a command, one after the other: what the loop over them has in hand, and that what is left of them gives what the whole does.
+-- The steps of a command, one after the other: what the loop over them has in hand, and that what is left of them gives what the whole
+-- does.
 -- Assumes nothing.
 use Prim.Native.Nat.{ℕ, suc, ◌+◌, ◌≤◌, ◌<◌}
 use mathlib.Core.Path.{◌≡◌, refl, sym, ap, ap₂, subst, ◌∙◌}
 use mathlib.Core.List.{List, [], ◌∷◌, ◌++◌}
 use native.Mathlib.Omega.{arith}
 use native.Mathlib.Numerals.{add-one}
+use Rattle.std.proofs.Common.{Err, Ok, Result}
 use lib.Dec.{T, ltb→lt}
 use lib.ListN.{length, get_or, set, length-append, length-set}
 use Rattle.model.specs.Step.{op_of, fields_of}
@@ -14,19 +16,21 @@ use Rattle.model.specs.declared.Op.TheVariants.{Return, Get, Generate, Store, Co
 use Rattle.model.specs.declared.Use.{Use}
 use Rattle.model.specs.declared.Use.TheVariants.{Nothing, Operand, Attributes, Label}
 use Rattle.model.specs.Value.{Value, value_at, compute, operands}
-use Rattle.model.specs.Token.{State, Room, at_most, Out, ended, and_then, appear, get, store, perform, run_steps}
+use Rattle.model.specs.Token.{State, Room, Out, ended, and_then, appear, get, store, perform, run_steps}
 use Rattle.model.specs.Frame.{field_names, step_names, names_made}
 use Rattle.model.specs.declared.Step.{Step}
 use Rattle.model.proofs.Tests.{and_left, and_right}
 use Rattle.decoding.specs.Decoded.{step_from}
-use Rattle.token.specs.Carried.{room_of, counts_of, FewAtoms, Carries, Ready, UsedBelow, Named, Extends, Performs}
-use Rattle.line.specs.Stages.{Valued, StepsGiven, StepsReady}
-use Rattle.token.specs.declared.Counts.{Counts}
-use Rattle.token.specs.declared.Outcome.{Outcome}
-use Rattle.token.specs.declared.Outcome.TheVariants as code
+use Rattle.token.specs.Outcome.{SameTables}
+use Rattle.token.specs.Carried.{UsedBelow, Named, Extends, PerformsIn, ReadyIn, Stands, room_in}
+use Rattle.token.specs.declared.Halt.{Halt}
+use Rattle.token.specs.declared.Halt.TheVariants as halt
+use Rattle.token.specs.declared.Token.{Token}
 use Rattle.token.proofs.Undoing.{extends_refl, extends_trans}
-use Rattle.line.proofs.States.{ready_where_it_stands, rows_counted, performs_from_earlier, stop_performs, goes_on_when_given, ends_when_not_given, values_go_on}
-use Rattle.token.proofs.Chaining.{Stops}
+use Rattle.line.specs.Stages.{Valued, StepsGiven, StepsReady}
+use Rattle.line.proofs.States.{same_tables_refl, same_tables_trans, same_room, rows_length, keys_length, ready_where_it_stands}
+use Rattle.line.proofs.States.{rows_counted, performs_from_earlier, stop_performs, goes_on_with_row, stands_after, ends_with_halt}
+use Rattle.line.proofs.States.{values_go_on}
 
 -- ---- a step uses only the values that its op names
 
@@ -63,24 +67,24 @@ module _ {rows vs : List Value} {values : List ℕ} (H : Valued rows vs values) 
 -- ---- the next step
 
 -- the steps that are left are s, which is next, and the rest
-record Next (σ : State) (ss : List Step) (vs : List Value) (c : Counts) (part : List ℕ) (i count params : ℕ) (values : List ℕ) : Type 0 where
+record Next (σ : State) (ss : List Step) (vs : List Value) (t : Token) (part : List ℕ) (i params : ℕ) (values : List ℕ) : Type 0 where
   s : Step
   rest : List Step
   split : ss ≡ s ∷ rest
   read_is : step_from (get_or part i 0) ≡ s
-  named : Named s (get_or values s.a 0) (get_or values s.b 0) c.rows
+  named : Named s (get_or values s.a 0) (get_or values s.b 0) t.used.rows
   same : (ρ : Room)
       → perform ρ (op_of s) s (value_at σ.world.rows (get_or values s.a 0)) (value_at σ.world.rows (get_or values s.b 0)) σ
       ≡ perform ρ (op_of s) s (value_at vs s.a) (value_at vs s.b) σ
-  rest_count : i + 1 + length rest ≡ count
+  rest_count : i + 1 + length rest ≡ length part
   rest_codes : (j : ℕ) → j < length rest → step_from (get_or part (i + 1 + j) 0) ≡ get_or rest j (record { op = 0; a = 0; b = 0; t = 0 })
   rest_named : T (names_made (suc (length vs)) rest)
 
-next_of : {σ : State} {vs : List Value} {c : Counts} {rows keys guards part : List ℕ} {i count params : ℕ} {values : List ℕ} (ss : List Step)
-    → StepsGiven σ ss vs c rows keys guards part i count params values → i < count → Next σ ss vs c part i count params values
+next_of : {σ : State} {vs : List Value} {t : Token} {part : List ℕ} {i params : ℕ} {values : List ℕ} (ss : List Step)
+    → StepsGiven σ ss vs t part i params values → i < length part → Next σ ss vs t part i params values
 unfolding names_made step_from
 next_of [] G h = absurd (omega (arith, G.count_is))
-next_of {σ} {vs} {c} {part = part} {i} {values = values} (s ∷ rest) G h =
+next_of {σ} {vs} {part = part} {i} {values = values} (s ∷ rest) G h =
     let uses = fields_of (op_of s) in
     let a_names = field_names (length vs) uses.a s.a in
     let b_names = field_names (length vs) uses.b s.b in
@@ -100,7 +104,9 @@ next_of {σ} {vs} {c} {part = part} {i} {values = values} (s ∷ rest) G h =
         b_named = used_has_row G.valued s.b uses.b b_named counted;
         t_byte = omega (arith, ap (λ (x : Step). x.t) read);
       };
-      same = λ ρ. performs_by_what_it_uses ρ (op_of s) s _ _ _ _ σ (used_is_same G.valued s.a uses.a a_named) (used_is_same G.valued s.b uses.b b_named);
+      same = λ ρ.
+          performs_by_what_it_uses ρ (op_of s) s _ _ _ _ σ
+          (used_is_same G.valued s.a uses.a a_named) (used_is_same G.valued s.b uses.b b_named);
       rest_count = omega (arith, G.count_is);
       rest_codes = λ j l.
           let later : i + 1 + j ≡ i + suc j = omega arith in
@@ -115,130 +121,129 @@ none_left (s ∷ rest) h = absurd (omega arith)
 -- ---- the loop
 
 -- from the steps ss₀, the values vs₀ and the state σ₀ the call came to what is left and to the state now
-pub record Reached (ρ : Room) (σ₀ : State) (ss₀ : List Step) (vs₀ : List Value) (c : Counts)
-    (rows keys guards part : List ℕ) (i count params : ℕ) (values : List ℕ) : Type 0 where
+pub record Reached (ρ : Room) (σ₀ : State) (ss₀ : List Step) (vs₀ : List Value) (t : Token)
+    (part : List ℕ) (i params : ℕ) (values : List ℕ) : Type 0 where
   pub σ : State
   pub ss : List Step
   pub vs : List Value
-  pub given : StepsGiven σ ss vs c rows keys guards part i count params values
+  pub given : StepsGiven σ ss vs t part i params values
   pub extends : Extends σ₀ σ
   pub same : run_steps ρ ss₀ vs₀ σ₀ ≡ run_steps ρ ss vs σ
 
-pub record Running (rows₀ keys₀ guards₀ part : List ℕ) (count params : ℕ) (values₀ : List ℕ) (entry : Counts)
-    (rows keys guards values : List ℕ) (c : Counts) (i : ℕ) : Type 0 where
-  pub rows_kept : length rows ≡ length rows₀
-  pub keys_kept : length keys ≡ length keys₀
-  pub guards_kept : length guards ≡ length guards₀
+pub record Running (before : Token) (part : List ℕ) (params : ℕ) (values₀ : List ℕ) (t : Token) (values : List ℕ) (i : ℕ) : Type 0 where
+  pub same_tables : SameTables before t
   pub twenty : length values ≡ 20
-  pub reached : (σ : State) (ss : List Step) (vs : List Value)
-      → StepsGiven σ ss vs entry rows₀ keys₀ guards₀ part 0 count params values₀
-      → Reached (room_of rows₀ keys₀) σ ss vs c rows keys guards part i count params values
+  pub reached : (σ : State) (ss : List Step) (vs : List Value) → StepsGiven σ ss vs before part 0 params values₀
+      → Reached (room_in before) σ ss vs t part i params values
 
-pub running_begins : {rows keys guards part : List ℕ} {count params : ℕ} {values : List ℕ} {c : Counts} → length values ≡ 20
-    → Running rows keys guards part count params values c rows keys guards values c 0
-running_begins twenty = record {
-  rows_kept = refl;
-  keys_kept = refl;
-  guards_kept = refl;
+pub running_begins : {t : Token} {part : List ℕ} {params : ℕ} {values : List ℕ} → length values ≡ 20
+    → Running t part params values t values 0
+running_begins {t} twenty = record {
+  same_tables = same_tables_refl t;
   twenty = twenty;
   reached = λ σ ss vs G. record { σ = σ; ss = ss; vs = vs; given = G; extends = extends_refl σ; same = refl };
 }
 
-module _ {rows₀ keys₀ guards₀ part : List ℕ} {count params : ℕ} {values₀ : List ℕ} {entry : Counts} {rows keys guards values : List ℕ}
-    {c : Counts} {i : ℕ} (L : Running rows₀ keys₀ guards₀ part count params values₀ entry rows keys guards values c i) where
+module _ {before : Token} {part : List ℕ} {params : ℕ} {values₀ : List ℕ} {t : Token} {values : List ℕ} {i : ℕ}
+    (L : Running before part params values₀ t values i) where
   -- the step that the code reads at place i, and the rows that it takes for the step's values
-  module _ (h : i < count) (s : Step) (x y : ℕ) (s_is : s ≡ step_from (get_or part i 0)) (x_is : x ≡ get_or values s.a 0)
+  module _ (h : i < length part) (s : Step) (x y : ℕ) (s_is : s ≡ step_from (get_or part i 0)) (x_is : x ≡ get_or values s.a 0)
       (y_is : y ≡ get_or values s.b 0) where
-    pub next_is_ready : StepsReady entry rows₀ keys₀ guards₀ part count params values₀ → Ready c rows keys guards × Named s x y c.rows
+    pub next_is_ready : StepsReady before part params values₀ → ReadyIn t × Named s x y t.used.rows
     next_is_ready R =
         let reached = L.reached R.σ R.ss R.vs R.given in
         let next = next_of reached.ss reached.given h in
-        let named = subst (λ (z : Step). Named z (get_or values z.a 0) (get_or values z.b 0) c.rows) (sym (s_is ∙ next.read_is)) next.named in (
-          ready_where_it_stands reached.given.stands (omega (arith, L.rows_kept, R.rows_small)) (omega (arith, L.keys_kept, R.keys_small)),
+        let by_step : Step → Type 0 = λ z. Named z (get_or values z.a 0) (get_or values z.b 0) t.used.rows in
+        let named = subst by_step (sym (s_is ∙ next.read_is)) next.named in (
+          ready_where_it_stands reached.given.stands
+              (omega (arith, rows_length before t L.same_tables, R.rows_small))
+              (omega (arith, keys_length before t L.same_tables, R.keys_small)),
           rw (x_is, y_is) named,
         )
 
     -- one step more
-    module _ (o : Outcome) (exit_rows exit_keys exit_guards : List ℕ)
-        (did : (σ : State) → Carries σ rows keys guards → FewAtoms σ → c ≡ counts_of σ
-        → Performs σ (perform (room_of rows keys) (op_of s) s (value_at σ.world.rows x) (value_at σ.world.rows y) σ) o exit_rows exit_keys exit_guards) where
+    module _ (o : Result ℕ Halt) (exit : Token)
+        (did : (σ : State) → Stands σ t
+        → PerformsIn σ (perform (room_in t) (op_of s) s (value_at σ.world.rows x) (value_at σ.world.rows y) σ) o exit) where
       -- the whole is that step and what follows it
       record Turned (σ₀ : State) (ss₀ : List Step) (vs₀ : List Value) : Type 0 where
-        reached : Reached (room_of rows₀ keys₀) σ₀ ss₀ vs₀ c rows keys guards part i count params values
-        next : Next reached.σ reached.ss reached.vs c part i count params values
+        reached : Reached (room_in before) σ₀ ss₀ vs₀ t part i params values
+        next : Next reached.σ reached.ss reached.vs t part i params values
         out : Out
-        performs : Performs reached.σ out o exit_rows exit_keys exit_guards
-        whole : run_steps (room_of rows₀ keys₀) ss₀ vs₀ σ₀
-            ≡ and_then out (λ v σ'. run_steps (room_of rows₀ keys₀) next.rest (reached.vs ++ v ∷ []) σ')
+        performs : PerformsIn reached.σ out o exit
+        whole : run_steps (room_in before) ss₀ vs₀ σ₀
+            ≡ and_then out (λ v σ'. run_steps (room_in before) next.rest (reached.vs ++ v ∷ []) σ')
 
-      turned : (σ₀ : State) (ss₀ : List Step) (vs₀ : List Value) → StepsGiven σ₀ ss₀ vs₀ entry rows₀ keys₀ guards₀ part 0 count params values₀
-          → Turned σ₀ ss₀ vs₀
+      turned : (σ₀ : State) (ss₀ : List Step) (vs₀ : List Value) → StepsGiven σ₀ ss₀ vs₀ before part 0 params values₀ → Turned σ₀ ss₀ vs₀
       unfolding run_steps
       turned σ₀ ss₀ vs₀ G =
           let reached = L.reached σ₀ ss₀ vs₀ G in
           let next = next_of reached.ss reached.given h in
           let σ = reached.σ in
-          let ρ = room_of rows₀ keys₀ in
-          let stands = reached.given.stands in
-          let by_rows : Room → Step → ℕ → ℕ → Out = λ room z j k. perform room (op_of z) z (value_at σ.world.rows j) (value_at σ.world.rows k) σ in
-          let room : room_of rows keys ≡ ρ = ap₂ (λ m n. record { rows = at_most m; keys = at_most n }) L.rows_kept L.keys_kept in
-          let same_out : by_rows (room_of rows keys) s x y ≡ perform ρ (op_of next.s) next.s (value_at reached.vs next.s.a) (value_at reached.vs next.s.b) σ =
-          ap₂ (by_rows (room_of rows keys) s) x_is y_is
-          ∙ ap₂ (λ z (r : Room). by_rows r z (get_or values z.a 0) (get_or values z.b 0)) (s_is ∙ next.read_is) room
+          let ρ = room_in before in
+          let by_rows : Room → Step → ℕ → ℕ → Out =
+          λ room z j k. perform room (op_of z) z (value_at σ.world.rows j) (value_at σ.world.rows k) σ in
+          let out : Out = perform ρ (op_of next.s) next.s (value_at reached.vs next.s.a) (value_at reached.vs next.s.b) σ in
+          let by_step : Step → Room → Out = λ z r. by_rows r z (get_or values z.a 0) (get_or values z.b 0) in
+          let same_out : by_rows (room_in t) s x y ≡ out =
+          ap₂ (by_rows (room_in t) s) x_is y_is
+          ∙ ap₂ by_step (s_is ∙ next.read_is) (same_room before t L.same_tables)
           ∙ next.same ρ in
           record {
             reached = reached;
             next = next;
-            out = perform ρ (op_of next.s) next.s (value_at reached.vs next.s.a) (value_at reached.vs next.s.b) σ;
-            performs = subst (λ (u : Out). Performs σ u o exit_rows exit_keys exit_guards) same_out (did σ stands.carries stands.few_atoms stands.counts_are);
+            out = out;
+            performs = subst (λ (u : Out). PerformsIn σ u o exit) same_out (did σ reached.given.stands);
             whole = reached.same ∙ ap (λ l. run_steps ρ l reached.vs σ) next.split;
           }
 
-      pub running_ends : Stops o
-          → (σ₀ : State) (ss₀ : List Step) (vs₀ : List Value) → StepsGiven σ₀ ss₀ vs₀ entry rows₀ keys₀ guards₀ part 0 count params values₀
-          → Performs σ₀ (run_steps (room_of rows₀ keys₀) ss₀ vs₀ σ₀) o exit_rows exit_keys exit_guards
-      running_ends other σ₀ ss₀ vs₀ G =
-          let t = turned σ₀ ss₀ vs₀ G in
-          performs_from_earlier t.reached.extends (t.whole ∙ ends_when_not_given other t.out _ t.performs) t.performs
+    module _ (exit : Token) where
+      pub running_ends : (e : Halt)
+          → ((σ : State) → Stands σ t
+          → PerformsIn σ (perform (room_in t) (op_of s) s (value_at σ.world.rows x) (value_at σ.world.rows y) σ) (Err e) exit)
+          → (σ₀ : State) (ss₀ : List Step) (vs₀ : List Value) → StepsGiven σ₀ ss₀ vs₀ before part 0 params values₀
+          → PerformsIn σ₀ (run_steps (room_in before) ss₀ vs₀ σ₀) (Err e) exit
+      running_ends e did σ₀ ss₀ vs₀ G =
+          let turn = turned (Err e) exit did σ₀ ss₀ vs₀ G in
+          performs_from_earlier turn.reached.extends turn.whole (ends_with_halt e exit _ turn.performs)
 
-      pub running_goes_on : params + i < 20 → length exit_rows ≡ length rows → length exit_keys ≡ length keys → length exit_guards ≡ length guards
-          → (c' : Counts) (row : ℕ) → o ≡ code.Gave c' row
-          → Running rows₀ keys₀ guards₀ part count params values₀ entry exit_rows exit_keys exit_guards (set values (params + i) row) c' (i + 1)
-      running_goes_on room rows_same keys_same guards-same c' row e = record {
-        rows_kept = rows_same ∙ L.rows_kept;
-        keys_kept = keys_same ∙ L.keys_kept;
-        guards_kept = guards-same ∙ L.guards_kept;
+      pub running_goes_on : params + i < 20 → SameTables t exit → (row : ℕ)
+          → ((σ : State) → Stands σ t
+          → PerformsIn σ (perform (room_in t) (op_of s) s (value_at σ.world.rows x) (value_at σ.world.rows y) σ) (Ok row) exit)
+          → Running before part params values₀ exit (set values (params + i) row) (i + 1)
+      running_goes_on room kept row did = record {
+        same_tables = same_tables_trans before t exit L.same_tables kept;
         twenty = length-set values (params + i) row ∙ L.twenty;
         reached = λ σ₀ ss₀ vs₀ G.
-            let t = turned σ₀ ss₀ vs₀ G in
-            let went = goes_on_when_given e t.out t.performs in
-            let next = t.next in
-            let vs = t.reached.vs in
-            let one_more : length (vs ++ went.v ∷ []) ≡ suc (length vs) = length-append vs (went.v ∷ []) ∙ add-one (length vs) in
+            let turn = turned (Ok row) exit did σ₀ ss₀ vs₀ G in
+            let went = goes_on_with_row exit turn.performs in
+            let next = turn.next in
+            let vs = turn.reached.vs in
+            let one_more : length (vs ++ went.value ∷ []) ≡ suc (length vs) = length-append vs (went.value ∷ []) ∙ add-one (length vs) in
             record {
-              σ = went.σ';
+              σ = went.state;
               ss = next.rest;
-              vs = vs ++ went.v ∷ [];
+              vs = vs ++ went.value ∷ [];
               given = record {
-                stands = went.stands;
-                valued = values_go_on t.reached.given.valued went (sym t.reached.given.made) (omega (arith, L.twenty));
-                made = omega (arith, t.reached.given.made);
+                stands = stands_after exit went;
+                valued = values_go_on exit turn.reached.given.valued went (sym turn.reached.given.made) (omega (arith, L.twenty));
+                made = omega (arith, turn.reached.given.made);
                 count_is = next.rest_count;
                 codes_are = next.rest_codes;
                 named = subst (λ n. T (names_made n next.rest)) (sym one_more) next.rest_named;
               };
-              extends = extends_trans t.reached.extends went.extends;
-              same = t.whole ∙ ap (λ u. and_then u (λ v σ'. run_steps (room_of rows₀ keys₀) next.rest (vs ++ v ∷ []) σ')) went.is;
+              extends = extends_trans turn.reached.extends went.extends;
+              same = turn.whole ∙ ap (λ u. and_then u (λ v σ'. run_steps (room_in before) next.rest (vs ++ v ∷ []) σ')) went.is;
             };
       }
 
   -- after the last step without a return the call stops
-  pub steps_run_out : count ≤ i → (σ₀ : State) (ss₀ : List Step) (vs₀ : List Value)
-      → StepsGiven σ₀ ss₀ vs₀ entry rows₀ keys₀ guards₀ part 0 count params values₀
-      → Performs σ₀ (run_steps (room_of rows₀ keys₀) ss₀ vs₀ σ₀) (code.Stopped c) rows keys guards
+  pub steps_run_out : length part ≤ i → (σ₀ : State) (ss₀ : List Step) (vs₀ : List Value)
+      → StepsGiven σ₀ ss₀ vs₀ before part 0 params values₀
+      → PerformsIn σ₀ (run_steps (room_in before) ss₀ vs₀ σ₀) (Err halt.Stopped) t
   unfolding run_steps
   steps_run_out h σ₀ ss₀ vs₀ G =
       let reached = L.reached σ₀ ss₀ vs₀ G in
       let empty = none_left reached.ss (omega (arith, reached.given.count_is)) in
-      performs_from_earlier reached.extends (reached.same ∙ ap (λ l. run_steps (room_of rows₀ keys₀) l reached.vs reached.σ) empty)
+      performs_from_earlier reached.extends (reached.same ∙ ap (λ l. run_steps (room_in before) l reached.vs reached.σ) empty)
       (stop_performs reached.given.stands)

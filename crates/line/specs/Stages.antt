@@ -1,7 +1,7 @@
--- The stages of a line as the code goes through them: an earlier line's outcome, one argument, all arguments, a command's steps,
--- an operation of the attacker's own. Each is said of every state of the model that the tables carry, so that nothing but their
--- numbers tells the code where it stands; what is ready holds one such state, which makes the numbers safe.
-use Rattle.std.specs.Prelude.{ℕ, ◌+◌, ◌/◌, ◌%◌, ◌≤◌, ◌<◌, ◌≡◌, cond, List, [], T, eqb, length, get_or}
+-- The stages of a line as the code goes through them: what its head tells, an earlier line's outcome, one argument, all arguments,
+-- a command's steps, an operation of the attacker's own. Each is said of every state of the model that the token carries, so that
+-- nothing but its numbers tells the code where it stands; what is ready holds one such state, which makes the numbers safe.
+use Rattle.std.specs.Prelude.{ℕ, ◌+◌, ◌/◌, ◌%◌, ◌≤◌, ◌<◌, ◌≡◌, cond, List, [], T, Option, Some, None, Result, Ok, Err, eqb, length, get_or}
 use Rattle.model.specs.Basics.{every}
 use Rattle.model.specs.declared.Operation.{Operation}
 use Rattle.model.specs.declared.Operation.TheVariants.{Encrypt, Decrypt, Derive}
@@ -12,37 +12,41 @@ use Rattle.model.specs.Frame.{arg_names, names_made}
 use Rattle.model.specs.Tables.{arg_code, args_code, arg_read}
 use Rattle.model.specs.declared.Step.{Step}
 use Rattle.decoding.specs.Decoded.{step_from}
-use Rattle.token.specs.Carried.{room_of, counts_of, FewAtoms, Carries, Extends, Performs}
+use Rattle.token.specs.Carried.{Extends, PerformsIn, ReadyIn, Stands}
+use Rattle.token.specs.declared.Halt.{Halt}
+use Rattle.token.specs.declared.Token.{Token}
 use Rattle.line.specs.Lined.{Finishing}
-use Rattle.token.specs.declared.Counts.{Counts}
-use Rattle.line.specs.declared.Earlier.{Earlier}
-use Rattle.line.specs.declared.Earlier.TheVariants as earlier
-use Rattle.line.specs.declared.Came.{Came}
-use Rattle.line.specs.declared.Came.TheVariants.{All, Off}
-use Rattle.line.specs.declared.Arguments.{Arguments}
+use Rattle.line.specs.declared.Act.{Act}
+use Rattle.line.specs.declared.Act.TheVariants as act
+use Rattle.line.specs.declared.Head.{Head}
 
--- between two steps of a line: the tables and the counts are those of the state σ
-pub record Stands (σ : State) (c : Counts) (rows keys guards : List ℕ) : Type 0 where
-  pub carries : Carries σ rows keys guards
-  pub few_atoms : FewAtoms σ
-  pub counts_are : c ≡ counts_of σ
+-- ---- the head
+
+-- by the kind of a line, with the number that stands after it: a command's, or a label
+abbrev pub act_from : ℕ → ℕ → Act
+act_from kind number =
+    cond (eqb kind 0) (act.Call number)
+    (cond (eqb kind 1) (act.Compute Encrypt) (cond (eqb kind 3) (act.Compute (Derive number)) (act.Compute Decrypt)))
+
+unfoldable pub head_from : ℕ → Head
+head_from head = record { act = act_from (head % 256) (head / 256 % 256); count = head / 65536 }
 
 -- ---- one argument
 
--- an earlier line's outcome, from its number
-unfoldable pub earlier_from : ℕ → Earlier
-earlier_from code = cond (eqb (code / 4294967296 % 2) 1) earlier.Stopped (earlier.Value (code % 65536))
+-- the row of an earlier line's value, from its number; a stopped line has none
+unfoldable pub earlier_from : ℕ → Option ℕ
+earlier_from code = cond (eqb (code / 4294967296 % 2) 1) None (Some (code % 65536))
 
-pub record ArgumentGiven (σ : State) (fs : List Finished) (a : Arg) (c : Counts) (rows keys guards outcomes : List ℕ) (code : ℕ) : Type 0 where
-  pub stands : Stands σ c rows keys guards
+pub record ArgumentGiven (σ : State) (fs : List Finished) (a : Arg) (t : Token) (outcomes : List ℕ) (code : ℕ) : Type 0 where
+  pub stands : Stands σ t
   pub finishing : Finishing fs σ.world.rows outcomes
   pub read : T (arg_read a)
   pub named : T (arg_names (length fs) a)
   pub code_is : code ≡ arg_code a
 
-pub record ArgumentReady (c : Counts) (rows outcomes : List ℕ) (code : ℕ) : Type 0 where
-  pub rows_fit : c.rows ≤ length rows
-  pub rows_small : length rows ≤ 4096
+pub record ArgumentReady (t : Token) (outcomes : List ℕ) (code : ℕ) : Type 0 where
+  pub rows_fit : t.used.rows ≤ length t.rows.now
+  pub rows_small : length t.rows.now ≤ 4096
   pub code_small : code < 65536
   pub line_there : code < 0x8000 → code < length outcomes
 
@@ -54,87 +58,78 @@ pub record Valued (rows vs : List Value) (values : List ℕ) : Type 0 where
   pub is : (i : ℕ) → i < length vs → value_at rows (get_or values i 0) ≡ value_at vs i
 
 -- the arguments from place i on, of count in all; `left` codes them
-pub record ArgumentsGiven (σ : State) (fs : List Finished) (args : List Arg) (c : Counts)
-    (rows keys guards outcomes : List ℕ) (left i count : ℕ) : Type 0 where
-  pub stands : Stands σ c rows keys guards
+pub record ArgumentsGiven (σ : State) (fs : List Finished) (args : List Arg) (t : Token)
+    (outcomes : List ℕ) (left i count : ℕ) : Type 0 where
+  pub stands : Stands σ t
   pub finishing : Finishing fs σ.world.rows outcomes
   pub read : T (every arg_read args)
   pub named : T (every (arg_names (length fs)) args)
   pub left_is : left ≡ args_code args
   pub count_is : i + length args ≡ count
 
-pub record ArgumentsReady (c : Counts) (rows outcomes : List ℕ) (left count : ℕ) : Type 0 where
+pub record ArgumentsReady (t : Token) (outcomes : List ℕ) (left count : ℕ) : Type 0 where
   pub σ : State
   pub fs : List Finished
   pub args : List Arg
-  pub keys : List ℕ
-  pub guards : List ℕ
-  pub given : ArgumentsGiven σ fs args c rows keys guards outcomes left 0 count
+  pub given : ArgumentsGiven σ fs args t outcomes left 0 count
   pub few : count ≤ 4
-  pub rows_small : length rows ≤ 4096
+  pub rows_small : length t.rows.now ≤ 4096
 
 -- all arguments are there: from their values and the state then, any line goes on
-pub record AllTaken (ρ : Room) (σ : State) (fs : List Finished) (args : List Arg) (c : Counts)
-    (rows keys guards values : List ℕ) : Type 0 where
+pub record AllTaken (ρ : Room) (σ : State) (fs : List Finished) (args : List Arg) (t : Token) (values : List ℕ) : Type 0 where
   pub σ' : State
   pub vs : List Value
-  pub stands : Stands σ' c rows keys guards
+  pub twenty : length values ≡ 20
+  pub stands : Stands σ' t
   pub extends : Extends σ σ'
   pub valued : Valued σ'.world.rows vs values
   pub as_many : length vs ≡ length args
   pub goes_on : (next : List Value → State → Out) → with_arguments ρ fs args [] σ next ≡ next vs σ'
 
 -- otherwise any line ends with them
-abbrev pub Taken : Room → State → List Finished → List Arg → Came → List ℕ → List ℕ → List ℕ → List ℕ → Type 0
-Taken ρ σ fs args (All c) rows keys guards values = AllTaken ρ σ fs args c rows keys guards values
-Taken ρ σ fs args (Off o) rows keys guards values =
-    (next : List Value → State → Out) → Performs σ (with_arguments ρ fs args [] σ next) o rows keys guards
-
-pub record TakesArguments (c : Counts) (left count : ℕ) (before outcomes : List ℕ) (r : Arguments) (rows : List ℕ) : Type 0 where
-  pub twenty : length r.values ≡ 20
-  pub taken : (σ : State) (fs : List Finished) (args : List Arg) (keys guards : List ℕ)
-      → ArgumentsGiven σ fs args c before keys guards outcomes left 0 count
-      → Taken (room_of before keys) σ fs args r.came rows keys guards r.values
+abbrev pub Taken : Room → State → List Finished → List Arg → Result (List ℕ) Halt → Token → Type 0
+Taken ρ σ fs args (Ok values) t = AllTaken ρ σ fs args t values
+Taken ρ σ fs args (Err h) t = (next : List Value → State → Out) → PerformsIn σ (with_arguments ρ fs args [] σ next) (Err h) t
 
 -- ---- the steps of a command
 
 abbrev pub step_at : List Step → ℕ → Step
 step_at ss i = get_or ss i (record { op = 0; a = 0; b = 0; t = 0 })
 
--- the steps from place i of the command's part of the table on, of count in all, after the values vs
-pub record StepsGiven (σ : State) (ss : List Step) (vs : List Value) (c : Counts) (rows keys guards part : List ℕ)
-    (i count params : ℕ) (values : List ℕ) : Type 0 where
-  pub stands : Stands σ c rows keys guards
+-- the steps from place i of the command's part of the table on, after the values vs
+pub record StepsGiven (σ : State) (ss : List Step) (vs : List Value) (t : Token)
+    (part : List ℕ) (i params : ℕ) (values : List ℕ) : Type 0 where
+  pub stands : Stands σ t
   pub valued : Valued σ.world.rows vs values
   pub made : length vs ≡ params + i
-  pub count_is : i + length ss ≡ count
+  pub count_is : i + length ss ≡ length part
   pub codes_are : (j : ℕ) → j < length ss → step_from (get_or part (i + j) 0) ≡ step_at ss j
   pub named : T (names_made (length vs) ss)
 
-pub record StepsReady (c : Counts) (rows keys guards part : List ℕ) (count params : ℕ) (values : List ℕ) : Type 0 where
+pub record StepsReady (t : Token) (part : List ℕ) (params : ℕ) (values : List ℕ) : Type 0 where
   pub σ : State
   pub ss : List Step
   pub vs : List Value
-  pub given : StepsGiven σ ss vs c rows keys guards part 0 count params values
-  pub few_steps : count ≤ 16
+  pub given : StepsGiven σ ss vs t part 0 params values
+  pub few_steps : length part ≤ 16
   pub few_params : params ≤ 4
-  pub part_long : length part ≡ 16
   pub values_long : length values ≡ 20
-  pub rows_small : length rows ≤ 4096
-  pub keys_small : length keys ≤ 256
+  pub rows_small : length t.rows.now ≤ 4096
+  pub keys_small : length t.keys.now ≤ 256
 
 -- ---- an operation of the attacker's own
 
--- by its line's kind, with the number that stands in the command's place for a label
-abbrev pub operation_of : ℕ → ℕ → Operation
-operation_of kind label = cond (eqb kind 1) Encrypt (cond (eqb kind 3) (Derive label) Decrypt)
+-- the argument that it takes as its second operand; a derivation has one, which is that
+abbrev pub second_of : Operation → ℕ
+second_of Encrypt = 1
+second_of Decrypt = 1
+second_of (Derive label) = 0
 
--- the op of the step of the same name, and the argument that its field b names
-abbrev pub own_op : ℕ → ℕ
-own_op kind = cond (eqb kind 1) 4 (cond (eqb kind 3) 6 5)
-
-abbrev pub last_operand : ℕ → ℕ
-last_operand kind = cond (eqb kind 3) 0 1
+pub record OperandsReady (t : Token) (o : Operation) (values : List ℕ) : Type 0 where
+  pub ready : ReadyIn t
+  pub values_long : length values ≡ 20
+  pub first_there : get_or values 0 0 < t.used.rows
+  pub second_there : get_or values (second_of o) 0 < t.used.rows
 
 -- the line ends with the value
 abbrev pub computed : Room → Operation → Value → Value → State → Out

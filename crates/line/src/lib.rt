@@ -1,222 +1,185 @@
 // One line of the session: its arguments, left to right, then a call's steps or an operation of the attacker's own.
-// The tables alone tell the code where it stands, so each function promises its part of every state and line that they carry.
+// The token alone tells the code where it stands, so each function promises its part of every state and line that it carries.
 #![tactic(auto)]
 
-ghost use Rattle.std.specs.Prelude.{◌≡◌, List, ℕ, ◌<◌, get_or};
-ghost use Rattle.model.specs.Step.{op_of, Command};
-ghost use Rattle.model.specs.declared.Operation.{Operation};
-ghost use Rattle.model.specs.declared.Op.TheVariants.{Compute};
+ghost use Rattle.std.specs.Prelude.{◌≡◌, List, ◌<◌, get_or};
+ghost use Rattle.model.specs.Step.{Command};
 ghost use Rattle.model.specs.Value.{Value, value_at};
 ghost use Rattle.model.specs.Token.{State, run_steps};
 ghost use Rattle.model.specs.Session.{Arg, Line, Finished, appearing, run_line};
 ghost use Rattle.model.specs.Session.{argument as named};
 ghost use Rattle.model.specs.declared.Step.{Step};
-ghost use Rattle.token.specs.Carried.{room_of, Ready, Performs};
+ghost use Rattle.token.specs.Outcome.{SameTables};
+ghost use Rattle.token.specs.Carried.{PerformsIn, Stands, room_in};
 ghost use Rattle.line.specs.Lined.{LineGiven, LineReady};
-ghost use Rattle.line.specs.Stages.{Stands, earlier_from, ArgumentGiven, ArgumentReady, ArgumentsReady, TakesArguments, StepsGiven, StepsReady, computed, own_op, last_operand};
+ghost use Rattle.line.specs.Stages.{head_from, earlier_from, ArgumentGiven, ArgumentReady, ArgumentsGiven, ArgumentsReady, Taken};
+ghost use Rattle.line.specs.Stages.{StepsGiven, StepsReady, OperandsReady, second_of, computed};
 
-use model::Step;
-use token::{Counts, Outcome, perform_step, took};
+use model::{Full, Operation, Step};
+use token::{Halt, Token};
+use values::Filled;
 
-// What an earlier line came to: its value's row, or nothing.
-#[derive(Clone, Copy)]
-enum Earlier {
-    Value(usize),
-    Stopped,
+// What a line does once its arguments are there: it calls a command, by its number, or computes by itself.
+#[derive(Clone, Copy, PartialEq, Eq, Debug)]
+enum Act {
+    Call(u8),
+    Compute(Operation),
 }
 
-fn earlier_of(code: u64) -> Earlier
+// What a line's head tells: what it does, and with how many arguments.
+#[derive(Clone, Copy, PartialEq, Eq, Debug)]
+struct Head {
+    act: Act,
+    count: usize,
+}
+
+#[tactic(auto, unfolding(crate::specs::Stages::head_from))]
+fn head_of(head: u64) -> Head
+    ensures { result ≡ head_from head }
+{
+    let number = (head / 256 % 256) as u8;
+    let act = match head % 256 {
+        0 => Act::Call(number),
+        1 => Act::Compute(Operation::Encrypt),
+        3 => Act::Compute(Operation::Derive(number)),
+        _ => Act::Compute(Operation::Decrypt),
+    };
+    let count = (head / 65536) as usize;
+    Head { act, count }
+}
+
+// The row of an earlier line's value, from the line's number in the table; a stopped line has none.
+#[tactic(auto, unfolding(crate::specs::Stages::earlier_from))]
+fn earlier_row(code: u64) -> Option<usize>
     ensures { result ≡ earlier_from code }
 {
     if code / 4294967296 % 2 == 1 {
-        return Earlier::Stopped;
+        return None;
     }
-    Earlier::Value((code % 65536) as usize)
+    Some((code % 65536) as usize)
 }
 
 // One argument: its highest bit says that the other fifteen are a constant, and they are an earlier line's number otherwise.
-fn argument(rows: &mut [u64], outcomes: &[u64], c: Counts, code: usize) -> Outcome
-    requires { ArgumentReady c rows.old outcomes.now code }
-    ensures { (σ : State) (fs : List Finished) (a : Arg) (keys guards : List ℕ) → ArgumentGiven σ fs a c rows.old keys guards outcomes.now code → Performs σ (appearing (room_of rows.old keys) (named fs a) σ) result rows.new keys guards }
+fn argument(token: &mut Token<'_>, outcomes: &[u64], code: usize) -> Result<usize, Halt>
+    requires { ArgumentReady token.old outcomes.now code }
+    ensures performs { (σ : State) (fs : List Finished) (a : Arg) → ArgumentGiven σ fs a token.old outcomes.now code
+        → PerformsIn σ (appearing (room_in token.old) (named fs a) σ) result token.new }
+    ensures same_tables { SameTables token.old token.new }
 {
     if code >= 0x8000 {
-        let n = c.rows;
-        let r = values::appear_const(rows, n, code % 0x8000);
-        return took(c, r);
+        let mut rows = Filled {
+            table: &mut *token.rows,
+            len: token.used.rows,
+        };
+        let row = values::appear_const(&mut rows, code % 0x8000);
+        token.used.rows = rows.len;
+        return row.ok_or(Halt::Full(Full::Rows));
     }
-    let Earlier::Value(row) = earlier_of(outcomes[code]) else {
-        return Outcome::Stopped(c);
-    };
-    Outcome::Gave(c, row)
+    earlier_row(outcomes[code]).ok_or(Halt::Stopped)
 }
 
-// All arguments are there, with the counts then, or the line ends at one of them.
-#[derive(Clone, Copy)]
-enum Came {
-    All(Counts),
-    Off(Outcome),
-}
-
-// How the arguments came out, and their rows; the places after them are for the values that steps make.
-#[derive(Clone, Copy)]
-struct Arguments {
-    came: Came,
-    values: [usize; 20],
-}
-
-// The arguments, sixteen bits each in `args`, the first one lowest.
+// The rows of the arguments, sixteen bits each in `args`, the first one lowest; the places after them are for the values that steps make.
 fn take_arguments(
-    rows: &mut [u64],
+    token: &mut Token<'_>,
     outcomes: &[u64],
-    c: Counts,
     args: u64,
     count: usize,
-) -> Arguments
-    requires { ArgumentsReady c rows.old outcomes.now args count }
-    ensures { TakesArguments c args count rows.old outcomes.now result rows.new }
+) -> Result<[usize; 20], Halt>
+    requires { ArgumentsReady token.old outcomes.now args count }
+    ensures taken { (σ : State) (fs : List Finished) (asked : List Arg) → ArgumentsGiven σ fs asked token.old outcomes.now args 0 count
+        → Taken (room_in token.old) σ fs asked result token.new }
+    ensures same_tables { SameTables token.old token.new }
 {
-    let mut values = [0usize; 20];
-    let mut now = c;
+    let mut values = [0; 20];
     let mut left = args;
-    let mut i: usize = 0;
-    while i < count {
+    for i in 0..count {
         let code = (left % 65536) as usize;
-        let o = argument(rows, outcomes, now, code);
-        let Outcome::Gave(then, row) = o else {
-            return Arguments {
-                came: Came::Off(o),
-                values: values,
-            };
-        };
-        values[i] = row;
-        now = then;
-        left = left / 65536;
-        i += 1;
+        values[i] = argument(token, outcomes, code)?;
+        left /= 65536;
     }
-    Arguments {
-        came: Came::All(now),
-        values: values,
-    }
+    Ok(values)
 }
 
 // The row of value i. A field that names no value may be any byte, and its row is then not looked at.
 fn row_of(values: &[usize], i: u8) -> usize
     ensures { result ≡ get_or values.now i 0 }
 {
-    let i = i as usize;
-    if i < values.len() { values[i] } else { 0 }
+    values.get(usize::from(i)).copied().unwrap_or(0)
 }
 
 // The steps of a command, from its own part of the table. Each one's value comes after those before it, the arguments first.
 fn run_steps(
-    rows: &mut [u64],
-    keys: &mut [u64],
-    guards: &mut [u64],
+    token: &mut Token<'_>,
     steps: &[u64],
-    c: Counts,
-    count: usize,
     params: usize,
     arguments: [usize; 20],
-) -> Outcome
-    requires { StepsReady c rows.old keys.old guards.old steps.now count params arguments }
-    ensures { (σ : State) (ss : List Step) (vs : List Value) → StepsGiven σ ss vs c rows.old keys.old guards.old steps.now 0 count params arguments → Performs σ (run_steps (room_of rows.old keys.old) ss vs σ) result rows.new keys.new guards.new }
+) -> Result<usize, Halt>
+    requires { StepsReady token.old steps.now params arguments }
+    ensures performs { (σ : State) (ss : List Step) (vs : List Value) → StepsGiven σ ss vs token.old steps.now 0 params arguments
+        → PerformsIn σ (run_steps (room_in token.old) ss vs σ) result token.new }
+    ensures same_tables { SameTables token.old token.new }
 {
     let mut values = arguments;
-    let mut now = c;
-    let mut i: usize = 0;
-    while i < count {
-        let s = decoding::step_of(steps[i]);
+    for (i, code) in steps.iter().enumerate() {
+        let s = decoding::step_of(*code);
         let x = row_of(&values, s.a);
         let y = row_of(&values, s.b);
-        let o = perform_step(rows, keys, guards, now, s, x, y);
-        let Outcome::Gave(then, row) = o else {
-            return o;
-        };
-        values[params + i] = row;
-        now = then;
-        i += 1;
+        values[params + i] = token.perform_step(s, x, y)?;
     }
-    Outcome::Stopped(now)
+    Err(Halt::Stopped)
 }
 
-// The op of the step that does what a line of this kind computes.
-fn own_op(kind: u64) -> u8
-    ensures { result ≡ own_op kind }
+// The argument that is an operation's second operand; a derivation has one argument, which is that.
+fn second_operand(operation: Operation) -> usize
+    ensures is { result ≡ second_of operation }
+    ensures small { result < 2 }
 {
-    match kind {
-        1 => 4,
-        3 => 6,
-        _ => 5,
+    match operation {
+        Operation::Encrypt | Operation::Decrypt => 1,
+        Operation::Derive(_) => 0,
     }
 }
 
-// The argument that the step of a computing line names by its field b: the second, or the only one.
-fn last_operand(kind: u64) -> usize
-    ensures { (result ≡ last_operand kind) × (result < 2) }
+// An operation of the attacker's own, on the line's arguments; the line ends with its value.
+fn compute(token: &mut Token<'_>, operation: Operation, values: &[usize]) -> Result<usize, Halt>
+    requires { OperandsReady token.old operation values.now }
+    ensures performs { (σ : State) → Stands σ token.old
+        → PerformsIn σ
+        (computed (room_in token.old) operation (value_at σ.world.rows (get_or values.now 0 0))
+        (value_at σ.world.rows (get_or values.now (second_of operation) 0)) σ)
+        result token.new }
+    ensures same_tables { SameTables token.old token.new }
 {
-    if kind == 3 { 0 } else { 1 }
-}
-
-// An operation of the attacker's own gives what the step of that name gives, and the line ends with it.
-fn compute(
-    rows: &mut [u64],
-    keys: &mut [u64],
-    guards: &mut [u64],
-    c: Counts,
-    s: Step,
-    x: usize,
-    y: usize,
-) -> Outcome
-    requires { Ready c rows.old keys.old guards.old × (x < c.rows) × (y < c.rows) }
-    ensures { (σ : State) (o : Operation) → Stands σ c rows.old keys.old guards.old → op_of s ≡ Compute o → Performs σ (computed (room_of rows.old keys.old) o (value_at σ.world.rows x) (value_at σ.world.rows y) σ) result rows.new keys.new guards.new }
-{
-    let o = perform_step(rows, keys, guards, c, s, x, y);
-    let Outcome::Gave(then, row) = o else {
-        return o;
-    };
-    Outcome::Ended(then, row)
+    let second = second_operand(operation);
+    let row = token.compute(operation, values[0], values[second])?;
+    Err(Halt::Ended(row))
 }
 
 // The line whose head and arguments are given, after the lines whose outcomes are in the table.
 pub fn run_line(
-    rows: &mut [u64],
-    keys: &mut [u64],
-    guards: &mut [u64],
+    token: &mut Token<'_>,
     outcomes: &[u64],
     commands: &[u64],
     steps: &[u64],
-    c: Counts,
     head: u64,
     args: u64,
-) -> Outcome
-    requires { LineReady c rows.old keys.old guards.old outcomes.now commands.now steps.now head args }
-    ensures { (σ : State) (cs : List Command) (fs : List Finished) (l : Line) → LineGiven σ cs fs l c rows.old keys.old guards.old outcomes.now commands.now steps.now head args → Performs σ (run_line (room_of rows.old keys.old) cs fs l σ) result rows.new keys.new guards.new }
+) -> Result<usize, Halt>
+    requires { LineReady token.old outcomes.now commands.now steps.now head args }
+    ensures performs { (σ : State) (cs : List Command) (fs : List Finished) (l : Line)
+        → LineGiven σ cs fs l token.old outcomes.now commands.now steps.now head args
+        → PerformsIn σ (run_line (room_in token.old) cs fs l σ) result token.new }
+    ensures same_tables { SameTables token.old token.new }
 {
-    let kind = head % 256;
-    let count = (head / 65536) as usize;
-    let taken = take_arguments(rows, outcomes, c, args, count);
-    let came = taken.came;
-    let values = taken.values;
-    match came {
-        Came::Off(o) => o,
-        Came::All(now) => {
-            if kind == 0 {
-                let command = (head / 256 % 256) as usize;
-                let n = decoding::at_most(commands[command] / 256, 16);
-                let first = 16 * command;
-                let last = first + 16;
-                let part = &steps[first..last];
-                return run_steps(rows, keys, guards, part, now, n, count, values);
-            }
-            let label = (head / 256 % 256) as u8;
-            let s = Step {
-                op: own_op(kind),
-                a: 0,
-                b: 0,
-                t: label,
-            };
-            let other = last_operand(kind);
-            compute(rows, keys, guards, now, s, values[0], values[other])
+    let head = head_of(head);
+    let values = take_arguments(token, outcomes, args, head.count)?;
+    match head.act {
+        Act::Call(command) => {
+            let command = usize::from(command);
+            let count = (commands[command] / 256).min(16) as usize;
+            let first = 16 * command;
+            let part = &steps[first..first + count];
+            run_steps(token, part, head.count, values)
         }
+        Act::Compute(operation) => compute(token, operation, &values),
     }
 }

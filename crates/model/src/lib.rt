@@ -4,6 +4,7 @@
 ghost use Rattle.std.specs.Prelude.{◌≡◌, ◌<◌};
 ghost use Rattle.model.specs.Types.{code_of, type_of_code};
 ghost use Rattle.model.specs.Step.{op_of, fields_of};
+ghost use Rattle.model.specs.Policy.{allows};
 ghost use Rattle.model.specs.Numbers.{fault_number, rule_number, full_number};
 
 // The six types; `None` stands for "no type": of a template that has none, and of a join over no template. Their codes are in this order.
@@ -68,6 +69,15 @@ pub struct Step {
 pub struct Policy {
     pub transported: Ty,
     pub allowing: u64,
+}
+
+impl Policy {
+    // Whether the set has template t; no number above the templates' is in it.
+    pub fn allows(self, t: u8) -> bool
+        ensures { result ≡ allows self.allowing t }
+    {
+        t < 64 && (self.allowing >> t) % 2 == 1
+    }
 }
 
 impl Step {

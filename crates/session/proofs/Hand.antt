@@ -6,10 +6,10 @@ use mathlib.Core.Bool.{Bool, true, false, ◌||◌, or-false, or_comm}
 use mathlib.Core.List.{List, [], ◌∷◌, ◌++◌, map}
 use native.Mathlib.Omega.{arith}
 use native.Mathlib.Decide.{ℕ_discrete, dec_lt}
-use lib.Dec.{T, eqb}
-use lib.ListN.{length, get_or, take, set, length-append, length-set, get_or-append}
+use lib.Dec.{T}
+use lib.ListN.{length, get_or, set, length-append, length-set, get_or-append}
 use lib.Seq.{get_or-set_same, get_or-set_other}
-use borrow.Author.Tests.{lt-ltb, le-ltb}
+use Rattle.std.proofs.Common.{Option}
 use Rattle.model.specs.Basics.{All, index_by, some}
 use Rattle.model.specs.Value.{Value, const, same, is_const, row_of, present, value_at}
 use Rattle.model.specs.Session.{Outcome, value, none, is_value, in_hand, breached}
@@ -17,7 +17,7 @@ use Rattle.model.proofs.Lists.{all_map, all_snoc, none_passes}
 use Rattle.model.specs.Tables.{Rows}
 use Rattle.values.proofs.Present.{same_itself, same_is_equal, present_means_below, value_at_its_row, row_kept, present_kept}
 use Rattle.values.proofs.Rows.{row_at}
-use Rattle.line.specs.Lined.{Rowed}
+use Rattle.line.specs.Lined.{RowIs}
 use Rattle.session.specs.Sessioned.{breached_by, hand_after}
 use Rattle.session.proofs.Marks.{some_cons}
 
@@ -37,7 +37,8 @@ unfolding index_by
 some_map q f [] = refl
 some_map q f (x ∷ xs) = some_cons q (f x) (map f xs) ∙ rw (some_map q f xs) (sym (some_cons (λ a. q (f a)) x xs))
 
-pub some_agrees : {A : Type 0} (q r : A → Bool) (d : A) (xs : List A) → ((i : ℕ) → i < length xs → q (get_or xs i d) ≡ r (get_or xs i d)) → some q xs ≡ some r xs
+pub some_agrees : {A : Type 0} (q r : A → Bool) (d : A) (xs : List A) → ((i : ℕ) → i < length xs → q (get_or xs i d) ≡ r (get_or xs i d))
+    → some q xs ≡ some r xs
 unfolding index_by
 some_agrees q r d [] f = refl
 some_agrees q r d (x ∷ xs) f =
@@ -50,35 +51,37 @@ abbrev pub HasPlace : List Value → Outcome → Type 0
 HasPlace rows (value v) = present v rows ≡ true
 HasPlace rows none = Unit {0}
 
-pub record Hand (hand : List ℕ) (rows : List Value) (os : List Outcome) : Type 0 where
+pub record Hand (hand : List Bool) (rows : List Value) (os : List Outcome) : Type 0 where
   pub long : length hand ≡ 4096
-  pub marked : (r : ℕ) → r < length rows → eqb (get_or hand r 0) 1 ≡ some (is_value (value_at rows r)) os
-  pub unmarked : (r : ℕ) → length rows ≤ r → get_or hand r 0 ≡ 0
+  pub marked : (r : ℕ) → r < length rows → get_or hand r false ≡ some (is_value (value_at rows r)) os
+  pub unmarked : (r : ℕ) → length rows ≤ r → get_or hand r false ≡ false
   pub known : All (HasPlace rows) os
 
 place_kept : (rows ws : List Value) (o : Outcome) → HasPlace rows o → HasPlace (rows ++ ws) o
 place_kept rows ws (value v) h = present_kept v rows ws h
 place_kept rows ws none h = tt
 
--- a new row's value is no finished line's
-new_value_unmet : (rows ws : List Value) → Rows (rows ++ ws) → (r : ℕ) → length rows ≤ r → r < length (rows ++ ws) → (o : Outcome) → HasPlace rows o
-    → T (is_value (value_at (rows ++ ws) r) o) → ⊥
-new_value_unmet rows ws R r old new (value v) h t =
-    let e : value_at (rows ++ ws) r ≡ v = same_is_equal _ v (true_of (same (value_at (rows ++ ws) r) v) t) in
-    let row : row_of v (rows ++ ws) ≡ r = ap (λ x. row_of x (rows ++ ws)) (sym e) ∙ row_at R r new in
-    omega (arith, row_kept v rows ws h, present_means_below v rows h)
-  where
-    true_of : (b : Bool) → T b → b ≡ true
-    true_of true t = refl
-    true_of false t = absurd t
-new_value_unmet rows ws R r old new none h t = t
+true_of : (b : Bool) → T b → b ≡ true
+true_of true t = refl
+true_of false t = absurd t
 
 false_of : (b : Bool) → (T b → ⊥) → b ≡ false
 false_of true f = absurd (f tt)
 false_of false f = refl
 
+-- a new row's value is no finished line's
+new_value_unmet : (rows ws : List Value) → Rows (rows ++ ws) → (r : ℕ) → length rows ≤ r → r < length (rows ++ ws) → (o : Outcome)
+    → HasPlace rows o
+    → T (is_value (value_at (rows ++ ws) r) o) → ⊥
+new_value_unmet rows ws R r old new (value v) h t =
+    let e : value_at (rows ++ ws) r ≡ v = same_is_equal _ v (true_of (same (value_at (rows ++ ws) r) v) t) in
+    let row : row_of v (rows ++ ws) ≡ r = ap (λ x. row_of x (rows ++ ws)) (sym e) ∙ row_at R r new in
+    omega (arith, row_kept v rows ws h, present_means_below v rows h)
+new_value_unmet rows ws R r old new none h t = t
+
 -- rows may grow
-pub hand_grown : (hand : List ℕ) (rows ws : List Value) (os : List Outcome) → Hand hand rows os → Rows (rows ++ ws) → Hand hand (rows ++ ws) os
+pub hand_grown : (hand : List Bool) (rows ws : List Value) (os : List Outcome) → Hand hand rows os → Rows (rows ++ ws)
+    → Hand hand (rows ++ ws) os
 hand_grown hand rows ws os h R = record {
   long = h.long;
   marked = λ r l. go r l (dec_lt r (length rows));
@@ -86,61 +89,67 @@ hand_grown hand rows ws os h R = record {
   known = all_map (HasPlace rows) (HasPlace (rows ++ ws)) (place_kept rows ws) os h.known;
 }
   where
-    go : (r : ℕ) → r < length (rows ++ ws) → Dec (r < length rows) → eqb (get_or hand r 0) 1 ≡ some (is_value (value_at (rows ++ ws) r)) os
+    go : (r : ℕ) → r < length (rows ++ ws) → Dec (r < length rows) → get_or hand r false ≡ some (is_value (value_at (rows ++ ws) r)) os
     go r l (yes old) = rw (get_or-append rows ws (const 0) r old) (h.marked r old)
     go r l (no new) =
         rw (h.unmarked r (omega arith))
         (sym (false_of (some (is_value (value_at (rows ++ ws) r)) os)
         (none_passes (HasPlace rows) (is_value (value_at (rows ++ ws) r)) (new_value_unmet rows ws R r (omega arith) l) os h.known)))
 
+-- one more line, with a value
+module _ (hand : List Bool) (rows : List Value) (os : List Outcome) (v : Value) (h : Hand hand rows os) (R : Rows rows)
+    (few : length rows ≤ 4096) (there : present v rows ≡ true) where
+  abbrev row : ℕ
+  row = row_of v rows
+
+  below : row < length rows
+  below = present_means_below v rows there
+
+  marked_after : (r : ℕ) → r < length rows → Dec (r ≡ row)
+      → get_or (set hand row true) r false ≡ some (is_value (value_at rows r)) (os ++ value v ∷ [])
+  marked_after r l (yes q) =
+      let at : value_at rows r ≡ v = ap (value_at rows) q ∙ value_at_its_row v rows there in
+      let marks = get_or-set_same hand row true false (omega (arith, below, h.long)) in
+      rw (some_snoc (is_value (value_at rows r)) os (value v), at, q, marks, same_itself v)
+      (sym (or_comm (some (is_value v) os) true))
+  marked_after r l (no q) =
+      let differ : same (value_at rows r) v ≡ false = false_of (same (value_at rows r) v)
+      (λ t. q (sym (row_at R r l) ∙ ap (λ x. row_of x rows) (same_is_equal (value_at rows r) v (true_of (same (value_at rows r) v) t)))) in
+      let before = some (is_value (value_at rows r)) os in
+      rw (some_snoc (is_value (value_at rows r)) os (value v), differ, get_or-set_other hand row r true false q, or-false before)
+      (h.marked r l)
+
+  value_in_hand : Hand (set hand row true) rows (os ++ value v ∷ [])
+  value_in_hand = record {
+    long = length-set hand row true ∙ h.long;
+    marked = λ r l. marked_after r l (ℕ_discrete r row);
+    unmarked = λ r l. get_or-set_other hand row r true false (λ q. omega (arith, below)) ∙ h.unmarked r l;
+    known = all_snoc (HasPlace rows) os (value v) h.known there;
+  }
+
 -- one more line
-pub hand_is_after : (hand : List ℕ) (rows : List Value) (os : List Outcome) (o : Outcome) (row : ℕ) → Hand hand rows os → Rows rows → length rows ≤ 4096
-    → Rowed rows o row → Hand (hand_after hand row) rows (os ++ o ∷ [])
-hand_is_after hand rows os none row h R few e =
-    let same_hand : hand_after hand row ≡ hand = rw (le-ltb row (length hand) (omega (arith, h.long))) in
-    rw same_hand (record {
+pub hand_is_after : {hand : List Bool} {rows : List Value} {os : List Outcome} (o : Outcome) (row : Option ℕ) → Hand hand rows os
+    → Rows rows
+    → length rows ≤ 4096 → RowIs rows o row → Hand (hand_after hand row) rows (os ++ o ∷ [])
+hand_is_after {hand} {rows} {os} (value v) row h R few e = rw e.1 (value_in_hand hand rows os v h R few e.0)
+hand_is_after {hand} {rows} {os} none row h R few e =
+    rw e
+    (record {
       long = h.long;
       marked = λ r l. h.marked r l ∙ sym (some_snoc (is_value (value_at rows r)) os none ∙ or-false (some (is_value (value_at rows r)) os));
       unmarked = h.unmarked;
       known = all_snoc (HasPlace rows) os none h.known tt;
     })
-hand_is_after hand rows os (value v) row h R few e =
-    let below : row < length rows = omega (arith, e.1, present_means_below v rows e.0) in
-    let new_hand : hand_after hand row ≡ set hand row 1 = rw (lt-ltb row (length hand) (omega (arith, h.long))) in
-    rw new_hand (record {
-      long = length-set hand row 1 ∙ h.long;
-      marked = λ r l. marked_after r l below (ℕ_discrete r row);
-      unmarked = λ r l. get_or-set_other hand row r 1 0 (λ q. omega arith) ∙ h.unmarked r l;
-      known = all_snoc (HasPlace rows) os (value v) h.known e.0;
-    })
-  where
-    marked_after : (r : ℕ) → r < length rows → row < length rows → Dec (r ≡ row)
-        → eqb (get_or (set hand row 1) r 0) 1 ≡ some (is_value (value_at rows r)) (os ++ value v ∷ [])
-    marked_after r l below (yes q) =
-        let at : value_at rows r ≡ v = ap (value_at rows) (q ∙ e.1) ∙ value_at_its_row v rows e.0 in
-        rw (some_snoc (is_value (value_at rows r)) os (value v), at, q, get_or-set_same hand row 1 0 (omega (arith, h.long)), same_itself v)
-        (sym (or_comm (some (is_value v) os) true))
-    marked_after r l below (no q) =
-        let differ : same (value_at rows r) v ≡ false = false_of (same (value_at rows r) v)
-        (λ t. q (let s : value_at rows r ≡ v = same_is_equal (value_at rows r) v (true_is (same (value_at rows r) v) t) in
-        sym (row_at R r l) ∙ ap (λ x. row_of x rows) s ∙ sym e.1)) in
-        rw (some_snoc (is_value (value_at rows r)) os (value v), differ, get_or-set_other hand row r 1 0 q, or-false (some (is_value (value_at rows r)) os))
-        (h.marked r l)
-      where
-        true_is : (b : Bool) → T b → b ≡ true
-        true_is true t = refl
-        true_is false t = absurd t
 
 -- ---- the breach mark of the model, from the guarded rows
 
-pub breach_is : (hand guards : List ℕ) (rows guarded : List Value) (os : List Outcome) → Hand hand rows os → (n : ℕ)
-    → map (value_at rows) (take n guards) ≡ guarded
-    → ((i : ℕ) → i < length (take n guards) → get_or (take n guards) i 0 < length rows)
-    → breached_by rows hand (take n guards) ≡ breached guarded os
+pub breach_is : (hand : List Bool) (guards : List ℕ) (rows guarded : List Value) (os : List Outcome) → Hand hand rows os
+    → map (value_at rows) guards ≡ guarded → ((i : ℕ) → i < length guards → get_or guards i 0 < length rows)
+    → breached_by rows hand guards ≡ breached guarded os
 unfolding breached_by
-breach_is hand guards rows guarded os h n e below =
-    some_agrees (λ g. eqb (get_or hand g 0) 1 || is_const (value_at rows g)) (λ g. in_hand os (value_at rows g)) 0 (take n guards)
-    (λ i l. rw (h.marked (get_or (take n guards) i 0) (below i l))
-    (or_comm (some (is_value (value_at rows (get_or (take n guards) i 0))) os) (is_const (value_at rows (get_or (take n guards) i 0)))))
-    ∙ sym (some_map (in_hand os) (value_at rows) (take n guards))
+breach_is hand guards rows guarded os h e below =
+    some_agrees (λ g. get_or hand g false || is_const (value_at rows g)) (λ g. in_hand os (value_at rows g)) 0 guards
+    (λ i l. rw (h.marked (get_or guards i 0) (below i l))
+    (or_comm (some (is_value (value_at rows (get_or guards i 0))) os) (is_const (value_at rows (get_or guards i 0)))))
+    ∙ sym (some_map (in_hand os) (value_at rows) guards)
     ∙ ap (λ x. some (in_hand os) x) e

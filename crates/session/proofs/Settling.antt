@@ -1,111 +1,96 @@
 -- What is left of a line: the state of its value, or, of a line that stopped or met an ending, the state before it.
 -- Assumes nothing.
-use Prim.Native.Nat.{ℕ, ◌+◌, ◌≤◌}
-use mathlib.Core.Path.{◌≡◌, sym, ap, ◌∙◌}
-use mathlib.Core.List.{List}
+use Prim.Native.Nat.{ℕ}
+use mathlib.Core.Path.{◌≡◌, refl, sym, ap, subst, ◌∙◌}
 use native.Mathlib.Omega.{arith}
-use lib.ListN.{length, length-append}
+use Rattle.std.proofs.Common.{Err, Ok, Option, Result, Some}
+use Rattle.std.specs.Option.{unwrap_or}
+use Rattle.std.specs.Result.{result_err}
 use Rattle.model.specs.Token.{State, Out, gave, ended, stopped, full}
-use Rattle.token.specs.Carried.{counts_of, state_of, outcome_of, Carries, Performs}
-use Rattle.session.specs.Sessioned.{SettledIs}
+use Rattle.model.specs.declared.Full.{Full}
+use Rattle.token.specs.Outcome as outcome
+use Rattle.token.specs.Outcome.{Outcome, outcome_told}
+use Rattle.token.specs.Carried.{counts_of, state_of, outcome_of, CarriedIn, PerformsIn}
 use Rattle.token.specs.declared.Counts.{Counts}
-use Rattle.token.specs.declared.Outcome.{Outcome}
-use Rattle.token.specs.declared.Outcome.TheVariants as code
-use Rattle.session.specs.declared.Settled.{Settled}
-use Rattle.session.specs.declared.Settled.TheVariants as done
+use Rattle.token.specs.declared.Halt.{Halt}
+use Rattle.token.specs.declared.Halt.TheVariants as halt
+use Rattle.token.specs.declared.Token.{Token}
+use Rattle.session.specs.Sessioned.{settled_of, settled_told, state_left, SettledIs}
 
--- ---- which outcome of the model an outcome of the code is
+-- ---- why the line ended
 
-pub data Ending : Out → Outcome → Type 0 where
-  as_gave : {v : Rattle.model.specs.Value.Value} {σ : State} {c : Counts} {x : ℕ} → c ≡ counts_of σ → Ending (gave v σ) (code.Gave c x)
-  as_stopped : {σ : State} {c : Counts} → c ≡ counts_of σ → Ending (stopped σ) (code.Stopped c)
-  as_full : {n k : ℕ} {σ : State} {c : Counts} → c ≡ counts_of σ → n ≡ k → Ending (full n σ) (code.Full k c)
+abbrev pub halt_of : Result ℕ Halt → Halt
+halt_of o = unwrap_or (result_err o) halt.Stopped
 
-pub gave_is : (out : Out) (c : Counts) (x : ℕ) → code.Gave c x ≡ outcome_of out → Ending out (code.Gave c x)
-gave_is (gave v σ) c x e = as_gave (let q : c ≡ counts_of σ = cc in q)
-gave_is (ended v σ) c x e = absurd (let z : ◌≡◌ {A = ℕ} 0 1 = cc in omega arith)
-gave_is (stopped σ) c x e = absurd (let z : ◌≡◌ {A = ℕ} 0 1 = cc in omega arith)
-gave_is (full n σ) c x e = absurd (let z : ◌≡◌ {A = ℕ} 0 1 = cc in omega arith)
+-- what is left of it depends on that alone
+settled_by_halt : (o : Result ℕ Halt) (h : Halt) (c : Counts) → halt_of o ≡ h
+    → settled_of (outcome_told (Err h) c) ≡ settled_of (outcome_told o c)
+settled_by_halt (Ok row) h c e = ap (λ k. settled_of (outcome_told (Err k) c)) (sym e)
+settled_by_halt (Err k) h c e = ap (λ k. settled_of (outcome_told (Err k) c)) (sym e)
 
-pub stopped_is : (out : Out) (c : Counts) → code.Stopped c ≡ outcome_of out → Ending out (code.Stopped c)
-stopped_is (gave v σ) c e = absurd (let z : ◌≡◌ {A = ℕ} 0 1 = cc in omega arith)
-stopped_is (ended v σ) c e = absurd (let z : ◌≡◌ {A = ℕ} 0 1 = cc in omega arith)
-stopped_is (stopped σ) c e = as_stopped (let q : c ≡ counts_of σ = cc in q)
-stopped_is (full n σ) c e = absurd (let z : ◌≡◌ {A = ℕ} 0 1 = cc in omega arith)
+-- ---- a line with a value
 
-pub full_is : (out : Out) (k : ℕ) (c : Counts) → code.Full k c ≡ outcome_of out → Ending out (code.Full k c)
-full_is (gave v σ) k c e = absurd (let z : ◌≡◌ {A = ℕ} 0 1 = cc in omega arith)
-full_is (ended v σ) k c e = absurd (let z : ◌≡◌ {A = ℕ} 0 1 = cc in omega arith)
-full_is (stopped σ) k c e = absurd (let z : ◌≡◌ {A = ℕ} 0 1 = cc in omega arith)
-full_is (full n σ) k c e = as_full (let q : c ≡ counts_of σ = cc in q) (let q : n ≡ k = cc in q)
+ended_told : (o : Result ℕ Halt) (row : ℕ) (c : Counts) → halt_of o ≡ halt.Ended row → outcome_told o c ≡ outcome.Ended c row
+ended_told (Ok x) row c e = absurd (let z : ◌≡◌ {A = ℕ} 0 1 = cc in omega arith)
+ended_told (Err h) row c e = ap (λ k. outcome_told (Err k) c) e
 
-abbrev pub later_of : Outcome → Counts
-later_of (code.Gave c x) = c
-later_of (code.Ended c x) = c
-later_of (code.Stopped c) = c
-later_of (code.Full n c) = c
+pub ended_settled : (σ : State) (out : Out) (o : Result ℕ Halt) (row : ℕ) (t : Token) → PerformsIn σ out o t → halt_of o ≡ halt.Ended row
+    → SettledIs σ out (Ok (Some row)) t
+ended_settled σ out o row t P e = go out P (sym (ended_told o row t.used e) ∙ P.answer)
+  where
+    go : (out : Out) → PerformsIn σ out o t → outcome.Ended t.used row ≡ outcome_of out → SettledIs σ out (Ok (Some row)) t
+    go (gave v σ') P e = absurd (let z : ◌≡◌ {A = ℕ} 0 1 = cc in omega arith)
+    go (ended v σ') P e = record { answer = ap settled_of e; counts_are = cc; carries = P.carries }
+    go (stopped σ') P e = absurd (let z : ◌≡◌ {A = ℕ} 0 1 = cc in omega arith)
+    go (full n σ') P e = absurd (let z : ◌≡◌ {A = ℕ} 0 1 = cc in omega arith)
 
-pub later_is : {out : Out} {o : Outcome} → Ending out o → later_of o ≡ counts_of (state_of out)
-later_is (as_gave e) = e
-later_is (as_stopped e) = e
-later_is (as_full e f) = e
+-- ---- a line that is undone
 
--- what comes of undoing it
-abbrev undone_as : Outcome → Counts → Settled
-undone_as (code.Gave c x) earlier = done.Line earlier 65535
-undone_as (code.Ended c x) earlier = done.Line earlier 65535
-undone_as (code.Stopped c) earlier = done.Line earlier 65535
-undone_as (code.Full n c) earlier = done.Over n
+abbrev NoValue : Outcome → Type 0
+NoValue (outcome.Gave c row) = Unit {0}
+NoValue (outcome.Ended c row) = ⊥
+NoValue (outcome.Stopped c) = Unit {0}
+NoValue (outcome.Full n c) = Unit {0}
 
--- ---- undoing
+left_as_before : (σ : State) (out : Out) → NoValue (outcome_of out) → state_left σ out ≡ σ
+left_as_before σ (gave v σ') h = refl
+left_as_before σ (ended v σ') h = absurd h
+left_as_before σ (stopped σ') h = refl
+left_as_before σ (full n σ') h = refl
 
-pub record UndoReady (earlier later : Counts) (rows keys : List ℕ) : Type 0 where
-  pub rows_grown : earlier.rows ≤ later.rows
-  pub rows_fit : later.rows ≤ length rows
-  pub keys_grown : earlier.keys ≤ later.keys
-  pub keys_fit : later.keys ≤ length keys
+abbrev counts_told : Outcome → Counts
+counts_told (outcome.Gave c row) = c
+counts_told (outcome.Ended c row) = c
+counts_told (outcome.Stopped c) = c
+counts_told (outcome.Full n c) = c
 
-pub undo_ready : (σ : State) (out : Out) (o : Outcome) (rows keys guards : List ℕ) (earlier later : Counts)
-    → Performs σ out o rows keys guards → earlier ≡ counts_of σ → later ≡ counts_of (state_of out) → UndoReady earlier later rows keys
-undo_ready σ out o rows keys guards earlier later p e l =
-    let x = p.extends in
-    let a : earlier.rows ≡ length σ.world.rows = ap (λ c. c.rows) e in
-    let b : later.rows ≡ length (state_of out).world.rows = ap (λ c. c.rows) l in
-    let c : earlier.keys ≡ length σ.token.stored = ap (λ c. c.keys) e in
-    let d : later.keys ≡ length (state_of out).token.stored = ap (λ c. c.keys) l in
-    let f : length (state_of out).world.rows ≡ length σ.world.rows + length x.new_rows =
-    ap length x.rows_grown ∙ length-append σ.world.rows x.new_rows in
-    let g : length (state_of out).token.stored ≡ length σ.token.stored + length x.new_keys =
-    ap length x.keys_grown ∙ length-append σ.token.stored x.new_keys in
+counts_then : (out : Out) → counts_told (outcome_of out) ≡ counts_of (state_of out)
+counts_then (gave v σ') = refl
+counts_then (ended v σ') = refl
+counts_then (stopped σ') = refl
+counts_then (full n σ') = refl
+
+told_counts : (o : Result ℕ Halt) (c : Counts) → counts_told (outcome_told o c) ≡ c
+told_counts (Ok row) c = refl
+told_counts (Err (halt.Ended row)) c = refl
+told_counts (Err halt.Stopped) c = refl
+told_counts (Err (halt.Full f)) c = refl
+
+pub later_counts : {σ : State} (out : Out) (o : Result ℕ Halt) (t : Token) → PerformsIn σ out o t → t.used ≡ counts_of (state_of out)
+later_counts out o t P = sym (told_counts o t.used) ∙ ap counts_told P.answer ∙ counts_then out
+
+-- h is why the line ended, and it ended without a value
+pub undone_settled : (σ : State) (out : Out) (o : Result ℕ Halt) (t t' : Token) → PerformsIn σ out o t → (h : Halt) → halt_of o ≡ h
+    → ((c : Counts) → NoValue (outcome_told (Err h) c)) → t'.used ≡ counts_of σ → CarriedIn σ t' → (r : Result (Option ℕ) Full)
+    → settled_told r ≡ settled_of (outcome_told (Err h) t.used) → SettledIs σ out r t'
+undone_settled σ out o t t' P h e lost counted carried r settled =
+    let same = left_as_before σ out (subst NoValue P.answer (no_value o e)) in
     record {
-      rows_grown = omega arith;
-      rows_fit = omega (arith, p.carries.rows_held.fit);
-      keys_grown = omega arith;
-      keys_fit = omega (arith, p.carries.keys_fit);
+      answer = settled ∙ settled_by_halt o h t.used e ∙ ap settled_of P.answer;
+      counts_are = rw same counted;
+      carries = rw same carried;
     }
-
--- ---- the answers
-
-pub undone_settled : (σ : State) (out : Out) (o : Outcome) (rows keys guards : List ℕ) (earlier : Counts) → Ending out o → earlier ≡ counts_of σ
-    → {r : Settled} → r ≡ undone_as o earlier → Carries σ rows keys guards → SettledIs σ out r rows keys guards
-undone_settled σ (gave v σ') (code.Gave c x) rows keys guards earlier (as_gave e) s a h = record { answer = a ∙ ap (λ d. done.Line d 65535) s; carries = h }
-undone_settled σ (stopped σ') (code.Stopped c) rows keys guards earlier (as_stopped e) s a h = record { answer = a ∙ ap (λ d. done.Line d 65535) s; carries = h }
-undone_settled σ (full n σ') (code.Full k c) rows keys guards earlier (as_full e f) s a h = record { answer = a ∙ ap done.Over (sym f); carries = h }
--- no other outcome of the code goes with the model's
-undone_settled σ (gave v σ') (code.Ended c x) rows keys guards earlier none s a h = elim none [ ]
-undone_settled σ (gave v σ') (code.Stopped c) rows keys guards earlier none s a h = elim none [ ]
-undone_settled σ (gave v σ') (code.Full k c) rows keys guards earlier none s a h = elim none [ ]
-undone_settled σ (ended v σ') o rows keys guards earlier none s a h = elim none [ ]
-undone_settled σ (stopped σ') (code.Gave c x) rows keys guards earlier none s a h = elim none [ ]
-undone_settled σ (stopped σ') (code.Ended c x) rows keys guards earlier none s a h = elim none [ ]
-undone_settled σ (stopped σ') (code.Full k c) rows keys guards earlier none s a h = elim none [ ]
-undone_settled σ (full n σ') (code.Gave c x) rows keys guards earlier none s a h = elim none [ ]
-undone_settled σ (full n σ') (code.Ended c x) rows keys guards earlier none s a h = elim none [ ]
-undone_settled σ (full n σ') (code.Stopped c) rows keys guards earlier none s a h = elim none [ ]
-
-pub ended_settled : (σ : State) (out : Out) (rows keys guards : List ℕ) (later : Counts) (row : ℕ)
-    → code.Ended later row ≡ outcome_of out → Carries (state_of out) rows keys guards → SettledIs σ out (done.Line later row) rows keys guards
-ended_settled σ (gave v σ') rows keys guards later row e h = absurd (let z : ◌≡◌ {A = ℕ} 0 1 = cc in omega arith)
-ended_settled σ (ended v σ') rows keys guards later row e h = record { answer = cc; carries = h }
-ended_settled σ (stopped σ') rows keys guards later row e h = absurd (let z : ◌≡◌ {A = ℕ} 0 1 = cc in omega arith)
-ended_settled σ (full n σ') rows keys guards later row e h = absurd (let z : ◌≡◌ {A = ℕ} 0 1 = cc in omega arith)
+  where
+    no_value : (o : Result ℕ Halt) → halt_of o ≡ h → NoValue (outcome_told o t.used)
+    no_value (Ok row) e = tt
+    no_value (Err k) e = subst (λ (k : Halt). NoValue (outcome_told (Err k) t.used)) (sym e) (lost t.used)

@@ -25,7 +25,7 @@ use Rattle.values.specs.Interned.{Interned, Found, Added, NoRoom, interned_told,
 use Rattle.values.proofs.Present.{below_means_present, row_added}
 use Rattle.values.proofs.Rows.{row_at, present_at, parts_at}
 use Rattle.token.specs.Carried.{room_of, counts_of, FewAtoms, OperandsBelow, Carries, Extends, Performs}
-use Rattle.token.specs.Numbers.{one_row, one_atom, took_of, atom_of, MakesAtom}
+use Rattle.token.specs.Numbers.{one_row, one_atom, atom_of, MakesAtom}
 use Rattle.token.specs.declared.Counts.{Counts}
 use Rattle.token.specs.declared.Halt.{Halt}
 use Rattle.token.specs.declared.Halt.TheVariants as halt
@@ -54,6 +54,12 @@ module _ {σ : State} {t ks gs : List ℕ} {c : Counts} (C : Carries σ t ks gs)
   full_as_it_is n = record { answer = ap (Full n) count; has_row = tt; atoms_rowed = tt; carries = C; extends = extends_refl σ }
 
 -- ---- a value appears
+
+-- what becomes of a value that appeared: ending 32 where there was no room for it
+abbrev pub took_of : Counts → Interned → Outcome
+took_of c (Found i) = Gave c i
+took_of c (Added i) = Gave (one_row c) i
+took_of c NoRoom = Full 32 c
 
 module _ (ρ : Room) (v : Value) (σ : State) where
   pub appears_again : present v σ.world.rows ≡ true → appear ρ v σ ≡ gave v σ
@@ -174,6 +180,10 @@ row_taken c (Some i) n e = go (ltb c.rows n) e
     go true e = ap (λ m. Gave (with_rows m c) i) e
     go false e = ap (λ m. Gave (with_rows m c) i) e
 
+-- a lent table is what the call left that it was lent to
+pub appeared_there : {v : Value} {vs : List Value} {a : Interned} {t u w : List ℕ} → Appeared v vs a t u → w ≡ u → Appeared v vs a t w
+appeared_there A e = rw e A
+
 pub row_told : (c : Counts) {v : Value} {vs : List Value} {r : Option ℕ} {f g : Filled} → c.rows ≡ f.len → f.len ≡ length vs
     → AppearedIn v vs r f g
     → outcome_told (rowed r) (with_rows g.len c) ≡ took_of c (interned_told r f.len g.len)
@@ -254,6 +264,9 @@ atom_told c {r} {f} {g} rows with_room without_room = go (dec_lt f.len (length f
         ≡ cond (ltb c.rows (length f.table.now)) (Gave (one_row (one_atom c)) c.rows) (Full 32 (one_atom c))
     go (yes h) = let P = with_room h in rw (rows, lt-ltb f.len (length f.table.now) h, P.answer, P.used) refl
     go (no h) = let P = without_room (omega arith) in rw (rows, le-ltb f.len (length f.table.now) (omega arith), P.answer, P.used) refl
+
+pub made_there : {c : Counts} {r : Outcome} {t u w : List ℕ} → MakesAtom c r t u → w ≡ u → MakesAtom c r t w
+made_there M e = rw e M
 
 pub makes_atom : {σ : State} {t ks gs u : List ℕ} {r : Outcome} {c : Counts} (ρ : Room) → ρ.rows ≡ at_most (length t) → Carries σ t ks gs
     → FewAtoms σ → c ≡ counts_of σ → MakesAtom c r t u → Performs σ (new_atom ρ σ) r u ks gs

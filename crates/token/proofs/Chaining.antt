@@ -8,8 +8,7 @@ use lib.ListN.{length, length-append}
 use Rattle.std.specs.Prelude.{Err}
 use Rattle.model.specs.Value.{Value, row_of}
 use Rattle.model.specs.Token.{State, Out, gave, ended, stopped, full, and_then}
-use Rattle.values.proofs.Present.{present_means_below, row_kept, present_kept}
-use Rattle.values.proofs.Appeared.{HasRow as InRow}
+use Rattle.values.proofs.Present.{HasRow as InRow, present_means_below, row_kept, present_kept}
 use Rattle.token.specs.Carried.{counts_of, FewAtoms, Carries, Ready, Extends, outcome_of, Performs}
 use Rattle.token.specs.declared.Counts.{Counts}
 use Rattle.token.specs.declared.Halt.{Halt}

@@ -16,9 +16,8 @@ use Rattle.model.specs.Token.{Key, State, with_row, with_atom, guard_if, key_at}
 use Rattle.model.specs.Tables.{padded, key_code}
 use Rattle.values.specs.Holds.{Holds}
 use Rattle.values.proofs.Index.{index_at_most_length, index_goes_on_after, map_of_same}
-use Rattle.values.proofs.Present.{same_is_equal, present_means_below, value_at_its_row, row_kept, present_kept}
+use Rattle.values.proofs.Present.{HasRow as InRow, same_is_equal, present_means_below, value_at_its_row, row_kept, present_kept}
 use Rattle.values.proofs.Rows.{row_at, present_at}
-use Rattle.values.proofs.Appeared.{HasRow as InRow}
 use Rattle.values.proofs.Padded.{set_next}
 use Rattle.token.specs.Carried.{Tidy, Carries}
 use Rattle.token.specs.declared.Counts.{Counts}

@@ -14,7 +14,7 @@ use Rattle.model.specs.Value.{Value, row_of, value_at}
 use Rattle.model.specs.Token.{State, Room, at_most, fits, Out, full, and_then, new_atom, with_place, guard_if, with_key, keep}
 use Rattle.model.specs.Token.{guards_generated, generate, store}
 use Rattle.model.specs.Tables.{key_code}
-use Rattle.values.proofs.Appeared.{HasRow as InRow}
+use Rattle.values.proofs.Present.{HasRow as InRow}
 use Rattle.token.specs.Carried.{room_of, counts_of, FewAtoms, Carries, Extends, Performs}
 use Rattle.token.specs.Numbers.{MakesAtom, MakesHandle, one_key, key_number, guards_with, Keeps}
 use Rattle.token.specs.declared.Counts.{Counts}

@@ -43,11 +43,18 @@ extends_trans {σ} E F = record {
 }
 
 pub counts_grown : {σ σ' : State} → Extends σ σ'
-    → (length σ.world.rows ≤ length σ'.world.rows) × (length σ.token.stored ≤ length σ'.token.stored)
-counts_grown {σ} E = (
-  omega (arith, ap length E.rows_grown, length-append σ.world.rows E.new_rows),
-  omega (arith, ap length E.keys_grown, length-append σ.token.stored E.new_keys),
-)
+    → (length σ.world.rows ≤ length σ'.world.rows)
+    × ((length σ.token.stored ≤ length σ'.token.stored) × (length σ.world.guarded ≤ length σ'.world.guarded))
+counts_grown {σ} E =
+    let rows = ap length E.rows_grown in
+    let keys = ap length E.keys_grown in
+    let guarded = ap length E.guarded_grown in
+    omega (
+      arith,
+      length-append σ.world.rows E.new_rows,
+      length-append σ.token.stored E.new_keys,
+      length-append σ.world.guarded E.new_guarded,
+    )
 
 -- the numbers of the stored keys, and zeros after them
 module _ {σ : State} {t ks gs : List ℕ} (C : Carries σ t ks gs) where
@@ -64,7 +71,7 @@ module _ {σ σ' : State} {t ks gs : List ℕ} (T : Tidy σ) (C : Carries σ' t 
   -- the guarded values of the earlier state stand where they stood
   module _ (i : ℕ) (h : i < length σ.world.guarded) where
     later : i < length σ'.world.guarded
-    later = omega (arith, ap length E.guarded_grown, length-append σ.world.guarded E.new_guarded)
+    later = omega (arith, counts_grown E)
 
     guard_later : value_at σ'.world.rows (get_or gs i 0) ≡ value_at σ.world.guarded i
     guard_later =
@@ -93,7 +100,7 @@ module _ {σ σ' : State} {t ks gs : List ℕ} (T : Tidy σ) (C : Carries σ' t 
   first_keys_earlier =
       let n = length σ.token.stored in
       let grown = key_code (σ.world.rows ++ E.new_rows) in
-      sym (take-take n (length σ'.token.stored) ks (counts_grown E).1)
+      sym (take-take n (length σ'.token.stored) ks (counts_grown E).1.0)
       ∙ ap (take n) (first_keys C ∙ ap₂ (λ vs. map (key_code vs)) E.rows_grown E.keys_grown ∙ map-append grown σ.token.stored E.new_keys)
       ∙ take_at (map grown σ.token.stored) (map grown E.new_keys) n (length-map σ.token.stored grown)
       ∙ codes_kept T E.new_rows
@@ -111,3 +118,7 @@ module _ {σ σ' : State} {t ks gs : List ℕ} (T : Tidy σ) (C : Carries σ' t 
     guards_have_rows = guard_has_row;
     guards_fit = omega (arith, C.guards_fit);
   }
+
+-- a lent table is what the call left that it was lent to
+pub carried_there : {σ : State} {t t' ks ks' gs : List ℕ} → Carries σ t ks gs → t' ≡ t → ks' ≡ ks → Carries σ t' ks' gs
+carried_there C e f = rw (e, f) C

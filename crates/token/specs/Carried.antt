@@ -13,7 +13,7 @@ use Rattle.model.specs.declared.Step.{Step}
 use Rattle.token.specs.declared.Counts.{Counts}
 use Rattle.token.specs.declared.Halt.{Halt}
 use Rattle.token.specs.declared.Token.{Token}
-use Rattle.token.specs.Outcome.{Outcome, outcome_told, counts_in}
+use Rattle.token.specs.Outcome.{Outcome, outcome_told}
 use Rattle.token.specs.Outcome as code
 
 -- the room that tables give
@@ -123,19 +123,19 @@ pub record Performs (σ : State) (o : Out) (r : Outcome) (rows keys guards : Lis
 -- ---- the same of the token as the code has it
 
 abbrev pub room_in : Token → Room
-room_in t = room_of t.rows.table.now t.keys.table.now
+room_in t = room_of t.rows.now t.keys.now
 
 abbrev pub CarriedIn : State → Token → Type 0
-CarriedIn σ t = Carries σ t.rows.table.now t.keys.table.now t.guards.table.now
+CarriedIn σ t = Carries σ t.rows.now t.keys.now t.guards.now
 
 -- between two steps: the token is that of the state
 pub record Stands (σ : State) (t : Token) : Type 0 where
   pub carries : CarriedIn σ t
   pub few_atoms : FewAtoms σ
-  pub counts_are : counts_in t ≡ counts_of σ
+  pub counts_are : t.used ≡ counts_of σ
 
 abbrev pub ReadyIn : Token → Type 0
-ReadyIn t = Ready (counts_in t) t.rows.table.now t.keys.table.now t.guards.table.now
+ReadyIn t = Ready t.used t.rows.now t.keys.now t.guards.now
 
 abbrev pub PerformsIn : State → Out → Result ℕ Halt → Token → Type 0
-PerformsIn σ o r t = Performs σ o (outcome_told r (counts_in t)) t.rows.table.now t.keys.table.now t.guards.table.now
+PerformsIn σ o r t = Performs σ o (outcome_told r t.used) t.rows.now t.keys.now t.guards.now

@@ -4,7 +4,6 @@ use Rattle.model.specs.Policy.{meets}
 use Rattle.model.specs.Value.{Value, fresh, present}
 use Rattle.model.specs.declared.Step.{Step}
 use Rattle.values.specs.Holds.{Holds, rows_in}
-use Rattle.values.specs.Interned.{Interned, Found, Added, NoRoom}
 use Rattle.keys.specs.Stored.{stored_of}
 use Rattle.keys.specs.declared.KeyRecord.{KeyRecord}
 use Rattle.token.specs.declared.Counts.{Counts}
@@ -26,15 +25,9 @@ one_key false c = record { rows = c.rows; keys = c.keys + 1; atoms = c.atoms; gu
 
 -- ---- appearing
 
--- what becomes of a value that appeared: ending 32 where there was no room for it
-abbrev pub took_of : Counts → Interned → Outcome
-took_of c (Found i) = Gave c i
-took_of c (Added i) = Gave (one_row c) i
-took_of c NoRoom = Full 32 c
-
 -- what is seen to before an atom is made
 abbrev pub AtomsFit : Token → Type 0
-AtomsFit t = (t.rows.len ≤ length t.rows.table.now) × (t.rows.len ≤ 4096) × (t.atoms ≤ t.rows.len)
+AtomsFit t = (t.used.rows ≤ length t.rows.now) × (t.used.rows ≤ 4096) × (t.used.atoms ≤ t.used.rows)
 
 -- a new atom, where there is room for len rows
 unfoldable pub atom_of : ℕ → Counts → Outcome

@@ -1,7 +1,7 @@
 -- What a step or a call comes to, in row numbers and counts; and how the code's results and the fields of its token tell it.
-use Rattle.std.specs.Prelude.{ℕ, ◌≡◌, Result, Ok, Err}
+use Rattle.std.specs.Prelude.{ℕ, ◌≡◌, List, Result, Ok, Err, length}
+use Rattle.std.specs.Borrow.{MutBor}
 use Rattle.model.specs.Numbers.{full_number}
-use Rattle.values.specs.Filled.{SameTable}
 use Rattle.token.specs.declared.Counts.{Counts}
 use Rattle.token.specs.declared.Halt.{Halt}
 use Rattle.token.specs.declared.Halt.TheVariants as halt
@@ -19,13 +19,14 @@ outcome_told (Err (halt.Ended row)) c = Ended c row
 outcome_told (Err halt.Stopped) c = Stopped c
 outcome_told (Err (halt.Full f)) c = Full (full_number f) c
 
-abbrev pub counts_in : Token → Counts
-counts_in t = record { rows = t.rows.len; keys = t.keys.len; atoms = t.atoms; guards = t.guards.len }
+-- the reference is the one that was lent, and the table behind it is as long as it was
+abbrev pub SameLent : MutBor (List ℕ) → MutBor (List ℕ) → Type 0
+SameLent a b = (b.ghost_name ≡ a.ghost_name) × (length b.now ≡ length a.now)
 
--- the three lent tables are the same ones
+-- the same of the three lent tables
 abbrev pub SameTables : Token → Token → Type 0
-SameTables t u = SameTable t.rows u.rows × SameTable t.keys u.keys × SameTable t.guards u.guards
+SameTables t u = SameLent t.rows u.rows × SameLent t.keys u.keys × SameLent t.guards u.guards
 
 -- the tables of the keys and of the guards have what they had
 abbrev pub KeysKept : Token → Token → Type 0
-KeysKept t u = (u.keys.table.now ≡ t.keys.table.now) × (u.guards.table.now ≡ t.guards.table.now)
+KeysKept t u = (u.keys.now ≡ t.keys.now) × (u.guards.now ≡ t.guards.now)

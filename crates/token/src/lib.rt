@@ -9,7 +9,8 @@ ghost use Rattle.model.specs.Value.{Value, value_at, compute, operands};
 ghost use Rattle.model.specs.Token.{State, appear, generate, store, perform};
 ghost use Rattle.values.specs.Holds.{Holds, AppearedIn};
 ghost use Rattle.values.specs.Filled.{SameTable};
-ghost use Rattle.token.specs.Outcome.{Gave, outcome_told, counts_in, SameTables, KeysKept};
+ghost use Rattle.token.specs.declared.Counts.{Counts};
+ghost use Rattle.token.specs.Outcome.{Gave, outcome_told, SameTables, KeysKept};
 ghost use Rattle.token.specs.Carried.{counts_of, Tidy, OperandsBelow, Named, Extends};
 ghost use Rattle.token.specs.Carried.{room_in, CarriedIn, Stands, ReadyIn, PerformsIn};
 ghost use Rattle.token.specs.Numbers.{AtomsFit, MakesAtom, MakesHandle, key_number, Keeps, get_of};
@@ -17,13 +18,13 @@ ghost use Rattle.token.specs.Numbers.{AtomsFit, MakesAtom, MakesHandle, key_numb
 use model::{Full, Op, Operation, Step};
 use values::Filled;
 
-// The token's tables with how much of each is used, and how many fresh atoms were made. The guards are the rows of the guarded values.
+// The token's tables, with how much of each is used. The guards are the rows of the guarded values.
 #[derive(Drop)]
 pub struct Token<'a> {
-    pub rows: Filled<'a>,
-    pub keys: Filled<'a>,
-    pub guards: Filled<'a>,
-    pub atoms: usize,
+    pub rows: &'a mut [u64],
+    pub keys: &'a mut [u64],
+    pub guards: &'a mut [u64],
+    pub used: Counts,
 }
 
 // How many rows, stored keys, fresh atoms and guarded values there are: noted before a line, so that the line can be undone.
@@ -53,7 +54,7 @@ fn key_code(h: usize, k: usize, t: u8) -> u64
 
 // What is computed from the values in rows x and y appears; None where there is no room for it.
 fn computed(rows: &mut Filled<'_>, operation: Operation, x: usize, y: usize) -> Option<usize>
-    requires { (rows.old.len ≤ length rows.old.table.now) × (rows.old.len ≤ 65536) × OperandsBelow operation x y rows.old.len }
+    requires { (rows.old.len ≤ 65536) × OperandsBelow operation x y rows.old.len }
     ensures same_table { SameTable rows.old rows.new }
     ensures appears { (vs : List Value) → Holds rows.old.table.now vs → rows.old.len ≡ length vs
         → AppearedIn (compute operation (operands operation (value_at vs x) (value_at vs y))) vs result rows.old rows.new }
@@ -65,29 +66,35 @@ fn computed(rows: &mut Filled<'_>, operation: Operation, x: usize, y: usize) -> 
     }
 }
 
-impl Token<'_> {
-    pub fn counts(&self) -> Counts
-        ensures { result ≡ counts_in self.now }
-    {
-        Counts {
-            rows: self.rows.len,
-            keys: self.keys.len,
-            atoms: self.atoms,
-            guards: self.guards.len,
-        }
+// The stored key of the handle in row x, where its template has what the step asks for. It has a row already.
+fn get(keys: &Filled<'_>, s: Step, x: usize) -> Result<usize, Halt>
+    requires { length keys.now.table.now ≤ 256 }
+    ensures { (c : Counts) → c.keys ≡ keys.now.len → outcome_told result c ≡ get_of keys.now.table.now c s x }
+{
+    match keys::stored(keys, x) {
+        Some(found) if types::meets_template(s, found.template) => Ok(found.key),
+        _ => Err(Halt::Stopped),
     }
+}
 
+impl Token<'_> {
     // One more atom. It has no row yet, so it gets the next one; it is counted also where there is no room for its row.
     fn new_atom(&mut self) -> Result<usize, Halt>
         requires { AtomsFit self.old }
         ensures same_tables { SameTables self.old self.new }
         ensures keys_kept { KeysKept self.old self.new }
-        ensures made { MakesAtom (counts_in self.old) (outcome_told result (counts_in self.new))
-            self.old.rows.table.now self.new.rows.table.now }
+        ensures made { MakesAtom self.old.used (outcome_told result self.new.used)
+            self.old.rows.now self.new.rows.now }
     {
-        let k = self.atoms;
-        self.atoms = k + 1;
-        values::appear_new(&mut self.rows, k).ok_or(Halt::Full(Full::Rows))
+        let k = self.used.atoms;
+        self.used.atoms = k + 1;
+        let mut rows = Filled {
+            table: &mut *self.rows,
+            len: self.used.rows,
+        };
+        let row = values::appear_new(&mut rows, k);
+        self.used.rows = rows.len;
+        row.ok_or(Halt::Full(Full::Rows))
     }
 
     // An atom for a handle, where there is a place for the key that it is to get: ending 33 comes before ending 32.
@@ -95,10 +102,10 @@ impl Token<'_> {
         requires { AtomsFit self.old }
         ensures same_tables { SameTables self.old self.new }
         ensures keys_kept { KeysKept self.old self.new }
-        ensures made { MakesHandle (length self.old.keys.table.now) (counts_in self.old) (outcome_told result (counts_in self.new))
-            self.old.rows.table.now self.new.rows.table.now }
+        ensures made { MakesHandle (length self.old.keys.now) self.old.used (outcome_told result self.new.used)
+            self.old.rows.now self.new.rows.now }
     {
-        if self.keys.len < self.keys.table.len() {
+        if self.used.keys < self.keys.len() {
             return self.new_atom();
         }
         Err(Halt::Full(Full::Keys))
@@ -106,16 +113,18 @@ impl Token<'_> {
 
     // The value in row k is kept under the handle in row h, at the next place, and is guarded where that is asked for. The handle is given.
     fn keep(&mut self, h: usize, k: usize, t: u8, guarded: bool) -> usize
-        requires { (self.old.keys.len < length self.old.keys.table.now) × (self.old.guards.len < length self.old.guards.table.now)
+        requires { (self.old.used.keys < length self.old.keys.now) × (self.old.used.guards < length self.old.guards.now)
             × (h < 65536) × (k < 65536) }
         ensures same_tables { SameTables self.old self.new }
-        ensures rows_kept { self.new.rows.table.now ≡ self.old.rows.table.now }
-        ensures kept { Keeps (counts_in self.old) h k t guarded (Gave (counts_in self.new) result)
-            self.old.keys.table.now self.old.guards.table.now self.new.keys.table.now self.new.guards.table.now }
+        ensures rows_kept { self.new.rows.now ≡ self.old.rows.now }
+        ensures kept { Keeps self.old.used h k t guarded (Gave self.new.used result)
+            self.old.keys.now self.old.guards.now self.new.keys.now self.new.guards.now }
     {
-        self.keys.push(key_code(h, k, t));
+        self.keys[self.used.keys] = key_code(h, k, t);
+        self.used.keys += 1;
         if guarded {
-            self.guards.push(k as u64);
+            self.guards[self.used.guards] = k as u64;
+            self.used.guards += 1;
         }
         h
     }
@@ -133,7 +142,7 @@ impl Token<'_> {
 
     // A new handle for the value in row x, which is guarded under A alone.
     fn store(&mut self, x: usize, t: u8) -> Result<usize, Halt>
-        requires { ReadyIn self.old × (x < self.old.rows.len) }
+        requires { ReadyIn self.old × (x < self.old.used.rows) }
         ensures same_tables { SameTables self.old self.new }
         ensures performed { (σ : State) → Stands σ self.old
             → PerformsIn σ (store (room_in self.old) (value_at σ.world.rows x) t σ) result self.new }
@@ -142,20 +151,9 @@ impl Token<'_> {
         Ok(self.keep(h, x, t, t / 2 % 2 == 1))
     }
 
-    // The stored key of the handle in row x, where its template has what the step asks for. It has a row already.
-    fn get(&self, s: Step, x: usize) -> Result<usize, Halt>
-        requires { (self.now.keys.len ≤ length self.now.keys.table.now) × (length self.now.keys.table.now ≤ 256) }
-        ensures { outcome_told result (counts_in self.now) ≡ get_of self.now.keys.table.now (counts_in self.now) s x }
-    {
-        match keys::stored(&self.keys, x) {
-            Some(found) if types::meets_template(s, found.template) => Ok(found.key),
-            _ => Err(Halt::Stopped),
-        }
-    }
-
     // One step. x and y are the rows of the values that its fields a and b name, below the number of rows where the op uses them.
     pub fn perform_step(&mut self, s: Step, x: usize, y: usize) -> Result<usize, Halt>
-        requires { ReadyIn self.old × Named s x y self.old.rows.len }
+        requires { ReadyIn self.old × Named s x y self.old.used.rows }
         ensures same_tables { SameTables self.old self.new }
         ensures performed { (σ : State) → Stands σ self.old
             → PerformsIn σ (perform (room_in self.old) (op_of s) s (value_at σ.world.rows x) (value_at σ.world.rows y) σ)
@@ -163,7 +161,13 @@ impl Token<'_> {
     {
         match s.op() {
             Op::Return => Err(Halt::Ended(x)),
-            Op::Get => self.get(s, x),
+            Op::Get => {
+                let keys = Filled {
+                    table: &mut *self.keys,
+                    len: self.used.keys,
+                };
+                get(&keys, s, x)
+            }
             Op::Generate => self.generate(s.t),
             Op::Store => self.store(x, s.t),
             Op::Compute(operation) => self.compute(operation, x, y),
@@ -173,30 +177,43 @@ impl Token<'_> {
 
     // An operation over the values in rows x and y, where it uses them.
     pub fn compute(&mut self, operation: Operation, x: usize, y: usize) -> Result<usize, Halt>
-        requires { ReadyIn self.old × OperandsBelow operation x y self.old.rows.len }
+        requires { ReadyIn self.old × OperandsBelow operation x y self.old.used.rows }
         ensures same_tables { SameTables self.old self.new }
         ensures performed { (σ : State) → Stands σ self.old
             → PerformsIn σ
             (appear (room_in self.old) (compute operation (operands operation (value_at σ.world.rows x) (value_at σ.world.rows y))) σ)
             result self.new }
     {
-        computed(&mut self.rows, operation, x, y).ok_or(Halt::Full(Full::Rows))
+        let mut rows = Filled {
+            table: &mut *self.rows,
+            len: self.used.rows,
+        };
+        let row = computed(&mut rows, operation, x, y);
+        self.used.rows = rows.len;
+        row.ok_or(Halt::Full(Full::Rows))
     }
 
     // Back to the counts of an earlier state of the same line: what the line has added since is made unused again.
     pub fn undo_line(&mut self, earlier: Counts)
-        requires { (earlier.rows ≤ self.old.rows.len) × (self.old.rows.len ≤ length self.old.rows.table.now)
-            × (earlier.keys ≤ self.old.keys.len) × (self.old.keys.len ≤ length self.old.keys.table.now) }
+        requires { (earlier.rows ≤ self.old.used.rows) × (self.old.used.rows ≤ length self.old.rows.now)
+            × (earlier.keys ≤ self.old.used.keys) × (self.old.used.keys ≤ length self.old.keys.now) }
         ensures same_tables { SameTables self.old self.new }
-        ensures counted { counts_in self.new ≡ earlier }
-        ensures guards_kept { self.new.guards.table.now ≡ self.old.guards.table.now }
+        ensures counted { self.new.used ≡ earlier }
+        ensures guards_kept { self.new.guards.now ≡ self.old.guards.now }
         ensures undone { (σ σ' : State) → Tidy σ → CarriedIn σ' self.old → Extends σ σ' → earlier ≡ counts_of σ
-            → counts_in self.old ≡ counts_of σ' → CarriedIn σ self.new }
+            → self.old.used ≡ counts_of σ' → CarriedIn σ self.new }
     {
-        self.rows.truncate(earlier.rows);
-        self.keys.truncate(earlier.keys);
-        // Nobody looks at the guards past their length, so they need not be cleared.
-        self.guards.len = earlier.guards;
-        self.atoms = earlier.atoms;
+        let mut rows = Filled {
+            table: &mut *self.rows,
+            len: self.used.rows,
+        };
+        rows.truncate(earlier.rows);
+        let mut keys = Filled {
+            table: &mut *self.keys,
+            len: self.used.keys,
+        };
+        keys.truncate(earlier.keys);
+        // Nobody looks at the guards past their count, so they need not be cleared.
+        self.used = earlier;
     }
 }

@@ -7,7 +7,7 @@ ghost use Rattle.model.specs.Types.{type_of, below, join};
 ghost use Rattle.model.specs.Policy.{allows, meets, offered, get_type};
 
 use model::Ty::{Any, Data, None as NoType, Seed, TData, Un, Wrap};
-use model::{Step, Ty};
+use model::{Policy, Step, Ty};
 
 // The type of each template, with the template's number at every eighth.
 const TYPES: [Ty; 64] = [
@@ -63,20 +63,20 @@ pub fn meets_template(s: Step, m: u8) -> bool
 }
 
 // Both tests are always made: which templates are allowed is hard to guess, and a wrong guess costs more than a test.
-fn is_offered(set: u64, s: Step, m: u8) -> bool
+fn is_offered(policy: Policy, s: Step, m: u8) -> bool
     requires { m < 64 }
-    ensures { result ≡ (allows set m && meets s m) }
+    ensures { result ≡ (allows policy.allowing m && meets s m) }
 {
-    ((set >> m) % 2 == 1) & meets_template(s, m)
+    policy.allows(m) & meets_template(s, m)
 }
 
 // The walk goes from the last template to the first, since the join of a list is defined from its end.
-pub fn get_type(set: u64, s: Step) -> Ty
-    ensures { result ≡ get_type set s }
+pub fn get_type(policy: Policy, s: Step) -> Ty
+    ensures { result ≡ get_type policy.allowing s }
 {
     let mut joined = NoType;
     for m in (0..64).rev() {
-        if is_offered(set, s, m) {
+        if is_offered(policy, s, m) {
             joined = join_of(type_of(m), joined);
         }
     }
@@ -84,8 +84,8 @@ pub fn get_type(set: u64, s: Step) -> Ty
 }
 
 // A template without a type counts too, so the type of the get would not tell.
-pub fn offers_some(set: u64, s: Step) -> bool
-    ensures { result ≡ ltb 0 (length (offered set s)) }
+pub fn offers_some(policy: Policy, s: Step) -> bool
+    ensures { result ≡ ltb 0 (length (offered policy.allowing s)) }
 {
-    (0..64).any(|m| is_offered(set, s, m))
+    (0..64).any(|m| is_offered(policy, s, m))
 }

@@ -1,15 +1,14 @@
 // The verdict over the lent tables: each step of each command against its rule, in order.
-// The rules are those of the crate model, each by its name there.
+// The rules are those of the crate model, each by its name there; what is returned and the handle of a get need only be Un.
 #![tactic(auto)]
 
 ghost use Rattle.std.specs.Prelude.{◌≡◌, ◌≤◌, length};
 ghost use Rattle.model.specs.Basics.{◌else◌then◌};
 ghost use Rattle.model.specs.Types.{type_of};
 ghost use Rattle.model.specs.Step.{op_of};
-ghost use Rattle.model.specs.Policy.{allows};
 ghost use Rattle.model.specs.Frame.{File};
 ghost use Rattle.model.specs.Numbers.{rule_number};
-ghost use Rattle.model.specs.Typing.{return_ok, handle_ok, store_ok, encrypt_ok, decrypt_ok, decrypt_type, derive_ok, derive_type};
+ghost use Rattle.model.specs.Typing.{store_ok, encrypt_ok, decrypt_ok, decrypt_type, derive_ok, derive_type};
 ghost use Rattle.model.specs.Typing.{refusal, gives, type_at, first_refusal, verdict};
 ghost use Rattle.model.specs.Told.{judged_told};
 ghost use Rattle.decoding.specs.Decoded.{command_from};
@@ -19,24 +18,6 @@ ghost use Rattle.typing.specs.Judged.{rule_told, command_findings};
 use decoding::{at_most, step_of};
 use model::{Broken, Op, Operation, Policy, Rule, Step, Ty};
 use types::{get_type, is_below, offers_some, type_of};
-
-fn return_ok(x: Ty) -> bool
-    ensures { result ≡ return_ok x }
-{
-    x == Ty::Un
-}
-
-fn handle_ok(x: Ty) -> bool
-    ensures { result ≡ handle_ok x }
-{
-    x == Ty::Un
-}
-
-fn is_allowed(allowing: u64, t: u8) -> bool
-    ensures { result ≡ allows allowing t }
-{
-    t < 64 && (allowing >> t) % 2 == 1
-}
 
 // The field of a step may hold more than the six attributes, and the type goes by these alone.
 #[tactic(auto, using(crate::proofs::Rules::type_by_attributes))]
@@ -95,22 +76,21 @@ fn unless(met: bool, rule: Rule) -> Result<(), Rule>
 fn check_step(policy: Policy, s: Step, x: Ty, y: Ty) -> Result<(), Rule>
     ensures { rule_told result ≡ refusal policy (op_of s) s x y }
 {
-    let Policy {
-        transported,
-        allowing,
-    } = policy;
     match s.op() {
-        Op::Return => unless(return_ok(x), Rule::Return),
+        Op::Return => unless(x == Ty::Un, Rule::Return),
         Op::Get => {
-            unless(handle_ok(x), Rule::Handle)?;
-            unless(offers_some(allowing, s), Rule::GetOffered)
+            unless(x == Ty::Un, Rule::Handle)?;
+            unless(offers_some(policy, s), Rule::GetOffered)
         }
-        Op::Generate => unless(is_allowed(allowing, s.t), Rule::TemplateAllowed),
+        Op::Generate => unless(policy.allows(s.t), Rule::TemplateAllowed),
         Op::Store => {
-            unless(is_allowed(allowing, s.t), Rule::TemplateAllowed)?;
+            unless(policy.allows(s.t), Rule::TemplateAllowed)?;
             unless(store_ok(x, s.t), Rule::Store)
         }
-        Op::Compute(Operation::Encrypt) => unless(encrypt_ok(transported, x, y), Rule::Encrypt),
+        Op::Compute(Operation::Encrypt) => unless(
+            encrypt_ok(policy.transported, x, y),
+            Rule::Encrypt,
+        ),
         Op::Compute(Operation::Decrypt) => unless(decrypt_ok(x, y), Rule::Decrypt),
         Op::Compute(Operation::Derive(_)) => unless(derive_ok(y), Rule::Derive),
         Op::Unknown => Err(Rule::KnownOp),
@@ -123,7 +103,7 @@ fn type_given(policy: Policy, s: Step, x: Ty, y: Ty) -> Ty
 {
     match s.op() {
         Op::Return => x,
-        Op::Get => get_type(policy.allowing, s),
+        Op::Get => get_type(policy, s),
         Op::Compute(Operation::Decrypt) => decrypt_type(policy.transported, y),
         Op::Compute(Operation::Derive(label)) => derive_type(label, y),
         _ => Ty::Un,

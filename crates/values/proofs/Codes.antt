@@ -13,8 +13,8 @@ use Rattle.model.specs.Basics.{index_by}
 use Rattle.model.specs.Value.{Value, const, fresh, enc, dec, div, same, row_of, value_at}
 use Rattle.model.specs.Tables.{packed, value_code, row_codes, PartsBelow, Rows}
 use Rattle.values.specs.Coding.{row_of_kind, decode_row}
-use Rattle.values.specs.declared.Row.{Row}
-use Rattle.values.specs.declared.Row.TheVariants.{Const, Fresh, Enc, Dec, Div}
+use Rattle.values.specs.declared.appearing.Row.{Row}
+use Rattle.values.specs.declared.appearing.Row.TheVariants.{Const, Fresh, Enc, Dec, Div}
 use Rattle.values.proofs.Index.{index_of_map, map_of_same}
 use Rattle.values.proofs.Present.{same_itself, same_is_equal, below_means_present, value_at_its_row, row_kept}
 use Rattle.values.proofs.Rows.{parts_at}

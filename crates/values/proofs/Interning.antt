@@ -47,9 +47,9 @@ stored_by_push {t} {x} {r} {u} room full = go (dec_lt t.len (length t.table.now)
 abbrev place : Filled → ℕ → ℕ
 place t x = index_by (eqb x) (take t.len t.table.now)
 
-module _ (t : Filled) (x : ℕ) (fits : t.len ≤ length t.table.now) where
+module _ (t : Filled) (x : ℕ) where
   place_is : position (eqb x) (take t.len t.table.now) ≡ cond (ltb (place t x) t.len) (Some (place t x)) None
-  place_is = position_by_index (eqb x) (take t.len t.table.now) ∙ rw (length-take-le t.len t.table.now fits)
+  place_is = position_by_index (eqb x) (take t.len t.table.now) ∙ rw (length-take-le t.len t.table.now t.fits)
 
   -- the search finds the number
   pub interns_found : {i : ℕ} → Some i ≡ position (eqb x) (take t.len t.table.now) → InternsIn t x (Some i) t

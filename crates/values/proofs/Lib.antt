@@ -8,4 +8,3 @@ pub mod Held
 pub mod Interning
 pub mod Forgetting
 pub mod Steps
-pub mod Appeared

@@ -1,6 +1,6 @@
 -- Laws on the row of a value and on whether it has one, over any list of values.
 -- Assumes nothing.
-use Prim.Native.Nat.{◌<◌}
+use Prim.Native.Nat.{ℕ, ◌<◌}
 use mathlib.Core.Path.{◌≡◌, refl, sym, ◌∙◌, subst}
 use mathlib.Core.Bool.{true, false, decide_iff}
 use mathlib.Core.List.{List, [], ◌∷◌, ◌++◌}
@@ -20,6 +20,12 @@ same_itself v = (decide_iff (value-discrete ℕ_discrete v v)).1 refl
 
 pub same_is_equal : (v w : Value) → same v w ≡ true → v ≡ w
 same_is_equal v w e = same_equal v w (subst T (sym e) tt)
+
+-- v has row i of the rows vs
+pub record HasRow (v : Value) (vs : List Value) (i : ℕ) : Type 0 where
+  pub there : present v vs ≡ true
+  pub row : row_of v vs ≡ i
+  pub within : i < length vs
 
 module _ (v : Value) (vs : List Value) where
   pub below_means_present : row_of v vs < length vs → present v vs ≡ true

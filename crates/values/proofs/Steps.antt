@@ -16,7 +16,7 @@ use Rattle.model.specs.Tables.{packed, value_code, PartsBelow}
 use Rattle.values.specs.Coding.{code_row, decode_row, constant_row, constant_read, undone_row, undone_read}
 use Rattle.values.specs.Interning.{add_answer, add_table, intern_answer, intern_table, Stored, Interns, InternsIn}
 use Rattle.values.specs.Holds.{Holds, answer_in, rows_in, Appeared, AppearedIn}
-use Rattle.values.specs.declared.Row.TheVariants as row
+use Rattle.values.specs.declared.appearing.Row.TheVariants as row
 use Rattle.values.specs.declared.Filled.{Filled}
 use Rattle.values.specs.Interned.{Interned, Found, Added, NoRoom, interned_told, count_after}
 use Rattle.values.proofs.Present.{below_means_present}

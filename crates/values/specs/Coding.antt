@@ -1,8 +1,8 @@
 -- Rows as the code makes their numbers and takes them apart, and what it asks of a row.
 use Rattle.std.specs.Prelude.{ℕ, ◌<◌, ◌/◌, ◌%◌, Bool, true, false, cond, eqb, Option, Some, None}
 use Rattle.model.specs.Tables.{packed}
-use Rattle.values.specs.declared.Row.{Row}
-use Rattle.values.specs.declared.Row.TheVariants.{Const, Fresh, Enc, Dec, Div}
+use Rattle.values.specs.declared.appearing.Row.{Row}
+use Rattle.values.specs.declared.appearing.Row.TheVariants.{Const, Fresh, Enc, Dec, Div}
 
 -- a row whose number can be taken apart again: no part needs more than its sixteen bits
 abbrev pub RowFits : Row → Type 0

@@ -1,26 +1,18 @@
 -- `frames::take_frame` meets its contract: a frame in its place is taken by its kind's function, and any other is refused by 3.
 -- Assumes nothing.
-use borrow.Author.Rules.{rules}
-use Rattle.frames.proofs.Turns.{policy_late, command_misplaced, line_early, kind_unknown, placed}
+use mathlib.Core.Path.{sym, ◌∙◌}
+use Rattle.std.proofs.Common.{rules}
+use Rattle.frames.proofs.Turns.{misplaced, command_place, line_place, placed}
 use Rattle.frames.proofs.take_frame.Goals as goal
 
-pub returns-then-place-eq0 : goal.returns-then-place-eq0
-returns-then-place-eq0 c r counted held = c.policy_turn.ensures _ _ _ _ _ _ r (placed counted (search rules)) held
+pub returns-then-not-allows-clause-answer : goal.returns-then-not-allows-clause-answer
+returns-then-not-allows-clause-answer c = misplaced _ _ _ _ _ _ _ _ (sym c.allows.ensures ∙ c.if-not-allows.true)
 
-pub returns-then-kind-eq1 : goal.returns-then-kind-eq1
-returns-then-kind-eq1 c = search (rules, policy_late)
+pub returns-in-2-clause-answer : goal.returns-in-2-clause-answer
+returns-in-2-clause-answer c r counted held =
+    let here = command_place c.args.f.now _ c.in-2.is (sym c.allows.ensures ∙ c.if-not-allows.false) in
+    c.command_turn.ensures.answer _ r (placed counted here) held
 
-pub returns-then-place-eq1 : goal.returns-then-place-eq1
-returns-then-place-eq1 c r counted held = c.command_turn.ensures _ _ _ r (placed counted (search rules)) held
-
-pub returns-then-kind-eq2 : goal.returns-then-kind-eq2
-returns-then-kind-eq2 c = search (rules, command_misplaced)
-
-pub returns-then-place-gt0 : goal.returns-then-place-gt0
-returns-then-place-gt0 c r counted held = c.line_turn.ensures _ _ (search rules) r counted held
-
-pub returns-then-kind-eq3 : goal.returns-then-kind-eq3
-returns-then-kind-eq3 c = search (rules, line_early)
-
-pub returns : goal.returns
-returns c = search (rules, kind_unknown)
+pub returns-in_default-clause-answer : goal.returns-in_default-clause-answer
+returns-in_default-clause-answer c =
+    c.line_turn.ensures.answer _ (line_place c.args.f.now _ (search rules) (sym c.allows.ensures ∙ c.if-not-allows.false))

@@ -6,11 +6,7 @@ use Rattle.keys.proofs.Searching.{stored_by_place}
 use Rattle.keys.proofs.stored.Goals as goal
 
 pub returns-in_err-i : goal.returns-in_err-i
-returns-in_err-i c =
-    let t = c.args.keys.now in
-    c.from_residual.ensures ∙ stored_by_place t.table.now t.len c.args.x c.requires.0 (sym c.in_err-i.was ∙ c.find_handle.ensures)
+returns-in_err-i c = c.from_residual.ensures ∙ stored_by_place c.args.keys.now c.args.x (sym c.in_err-i.was ∙ c.find_handle.ensures)
 
 pub returns : goal.returns
-returns c =
-    let t = c.args.keys.now in
-    ap Some c.found_at.ensures ∙ stored_by_place t.table.now t.len c.args.x c.requires.0 (sym c.in_ok-i.was ∙ c.find_handle.ensures)
+returns c = ap Some c.found_at.ensures ∙ stored_by_place c.args.keys.now c.args.x (sym c.in_ok-i.was ∙ c.find_handle.ensures)

@@ -1,20 +1,16 @@
--- `line::argument` meets its contract: a constant appears, and an earlier line's number in the table tells its value's row or that it stopped.
+-- `line::argument` meets its contract: a constant appears, and an earlier line's number in the table tells its value's row or that it
+-- stopped.
 -- Assumes nothing.
-use mathlib.Core.Path.{sym, ◌∙◌}
-use Rattle.line.proofs.OneArgument.{constant_is_taken, stopped_line_stops, line_value_is_taken}
+use borrow.Author.Rules.{rules}
+use mathlib.Core.Path.{refl}
+use Rattle.line.proofs.OneArgument.{constant_is_taken, line_is_taken}
 use Rattle.line.proofs.argument.Goals as goal
 
-pub returns-then-code-ge32768 : goal.returns-then-code-ge32768
-returns-then-code-ge32768 c = λ σ fs a keys guards G.
-    constant_is_taken c.if-code-ge32768.true c.appear_const-r.result _ c.took.ensures c.appear_const-r.ensures a G
+pub returns-then-code-ge32768-clause-performs : goal.returns-then-code-ge32768-clause-performs
+returns-then-code-ge32768-clause-performs c = λ σ fs a G.
+    rw c.ok_or.ensures.value
+    (constant_is_taken c.if-code-ge32768.true c.appear_const-row.result refl refl c.appear_const-row.ensures.appears a G (search rules))
 
-pub bounds-outcomes-code : goal.bounds-outcomes-code
-bounds-outcomes-code c = c.requires.line_there c.if-code-ge32768.false
-
-pub returns-in_default : goal.returns-in_default
-returns-in_default c = λ σ fs a keys guards G.
-    stopped_line_stops c.if-code-ge32768.false (sym c.earlier_of.ensures ∙ c.in_default.is) a G
-
-pub returns : goal.returns
-returns c = λ σ fs a keys guards G.
-    line_value_is_taken c.if-code-ge32768.false _ (sym c.earlier_of.ensures ∙ c.in-Value.is) a G
+pub returns-clause-performs : goal.returns-clause-performs
+returns-clause-performs c = λ σ fs a G.
+    rw (c.ok_or-2.ensures.value, c.earlier_row.ensures) (line_is_taken c.if-code-ge32768.false a G)

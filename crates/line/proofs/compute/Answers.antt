@@ -1,19 +1,22 @@
--- `line::compute` meets its contract: the step of the operation's name is performed, and its value ends the line.
+-- `line::compute` meets its contract: the operation is done, and its value ends the line.
 -- Assumes nothing.
-use borrow.Author.Rules.{rules}
-use Rattle.line.proofs.Computes.{own_step_is_named, computing_ends, computing_gives}
+use Rattle.std.proofs.lemmas.Result.{err_from_is_err_and}
+use Rattle.line.proofs.States.{ends_with_halt}
+use Rattle.line.proofs.Computes.{operands_below, ends_with_row}
 use Rattle.line.proofs.compute.Goals as goal
 
-pub perform_step-o-requires : goal.perform_step-o-requires
-perform_step-o-requires c =
-    (c.requires.0, own_step_is_named c.args.s (search rules) c.requires.1 c.requires.2)
+pub compute-requires : goal.compute-requires
+compute-requires c =
+    let ready = c.requires in
+    (ready.ready, operands_below c.args.operation ready.first_there (rw c.second_operand-second.ensures.is ready.second_there))
 
-pub returns-in_default : goal.returns-in_default
-returns-in_default c = λ σ a S is.
-    let args = c.args in
-    computing_ends args.s args.x args.y _ _ _ _ c.perform_step-o.ensures σ a S is c.in_default.not-Gave
+pub returns-in_err-row-clause-performs : goal.returns-in_err-row-clause-performs
+returns-in_err-row-clause-performs c = λ σ S.
+    let p = err_from_is_err_and c.from_residual.result c.from_residual.ensures.1 in
+    rw (p.1, p.2, ← c.second_operand-second.ensures.is)
+    (ends_with_halt _ c.compute.new.self _ (c.in_err-row.ensures.performed σ S))
 
-pub returns : goal.returns
-returns c = λ σ a S is.
-    let args = c.args in
-    computing_gives args.s args.x args.y _ _ _ _ c.perform_step-o.ensures σ a S is _ _ c.in-Gave.is
+pub returns-clause-performs : goal.returns-clause-performs
+returns-clause-performs c = λ σ S.
+    rw (← c.second_operand-second.ensures.is)
+    (ends_with_row c.compute.new.self (c.in_ok-row.ensures.performed σ S))

@@ -11,13 +11,13 @@ loop-m-init c = sym (joined_past_last _ _)
 
 pub loop-m-preserved-then-is_offered : goal.loop-m-preserved-then-is_offered
 loop-m-preserved-then-is_offered c =
-    let e = joined_with c.args.set c.args.s (c.loop-m.m - 1) c.loop-m.m (omega arith) (omega arith) (cc) in cc
+    let e = joined_with c.args.policy.allowing c.args.s (c.loop-m.m - 1) c.loop-m.m (omega arith) (omega arith) (cc) in cc
 
 pub loop-m-preserved : goal.loop-m-preserved
 loop-m-preserved c =
-    let e = joined_without c.args.set c.args.s (c.loop-m.m - 1) c.loop-m.m (omega arith) (omega arith) (cc) in cc
+    let e = joined_without c.args.policy.allowing c.args.s (c.loop-m.m - 1) c.loop-m.m (omega arith) (omega arith) (cc) in cc
 
 pub returns : goal.returns
 returns c =
     let over : c.loop-m.m ≡ 0 = omega arith in
-    let e = joined_from_first c.args.set c.args.s in cc
+    let e = joined_from_first c.args.policy.allowing c.args.s in cc

@@ -5,4 +5,4 @@ use Rattle.types.proofs.Walk.{joined_from}
 use Rattle.types.proofs.get_type.Given as goal
 
 abbrev pub invariant-loop-m : goal.invariant-loop-m
-invariant-loop-m l = l.joined ≡ joined_from l.set l.s l.m
+invariant-loop-m l = l.joined ≡ joined_from l.policy.allowing l.s l.m

@@ -11,6 +11,6 @@ use Rattle.types.proofs.offers_some.Goals as goal
 pub returns : goal.returns
 returns c =
     let a = c.args in
-    any_from_yields_List (offers a.set a.s) _ _ _ c.any.ensures.ran (YieldsList-from_range 0 64 64 (cc) refl)
+    any_from_yields_List (offers a.policy.allowing a.s) _ _ _ c.any.ensures.ran (YieldsList-from_range 0 64 64 (cc) refl)
     (λ x b q k. search (rules, tests))
-    ∙ any_offered a.set a.s
+    ∙ any_offered a.policy.allowing a.s

@@ -6,6 +6,3 @@ use Rattle.frames.proofs.line.arguments_code.Given as goal
 
 abbrev pub invariant-loop-i : goal.invariant-loop-i
 invariant-loop-i l = Coding l.f l.code (get_or l.f 3 0) l.i
-
-abbrev pub decreases-loop-i : goal.decreases-loop-i
-decreases-loop-i l = l.i

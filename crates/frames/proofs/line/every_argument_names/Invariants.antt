@@ -1,11 +1,8 @@
 -- `frames::line::every_argument_names` meets its contract. The loop's invariant: the arguments from i on decide.
 -- Assumes nothing.
-use Prim.Native.Nat.{◌-◌}
+use lib.ListN.{get_or}
 use Rattle.frames.proofs.Arguments.{Naming}
 use Rattle.frames.proofs.line.every_argument_names.Given as goal
 
 abbrev pub invariant-loop-i : goal.invariant-loop-i
-invariant-loop-i l = Naming l.f l.m l.k l.i
-
-abbrev pub decreases-loop-i : goal.decreases-loop-i
-decreases-loop-i l = l.k - l.i
+invariant-loop-i l = Naming l.f l.m (get_or l.f 3 0) l.i

@@ -8,4 +8,4 @@ use Rattle.values.proofs.Filled.truncate.Goals as goal
 pub returns-clause-forgets : goal.returns-clause-forgets
 returns-clause-forgets c =
     let zeros = c.fill.ensures.after (search rules) in
-    forgets_by_fill c.args.self.now.table.now _ _ c.requires.0 c.requires.1 _ _ (omega arith) (omega arith) _ zeros
+    forgets_by_fill c.args.self.now.table.now _ _ c.requires c.args.self.now.fits _ _ (omega arith) (omega arith) _ zeros

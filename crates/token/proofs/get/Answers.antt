@@ -1,0 +1,11 @@
+-- `token::get` meets its contract: a template that is read out of a stored key's number is below 64.
+-- Assumes nothing.
+use mathlib.Core.Path.{sym}
+use native.Mathlib.Omega.{arith}
+use Rattle.keys.proofs.Searching.{template_below_64}
+use Rattle.token.proofs.get.Goals as goal
+
+pub meets_template-requires : goal.meets_template-requires
+meets_template-requires c =
+    let t = c.args.keys.now in
+    omega (arith, template_below_64 t.table.now t.len c.args.x c.in-Some.found (sym c.in-Some.ensures))
