@@ -185,10 +185,11 @@ module _ {before : Token} {part : List ℕ} {params : ℕ} {values₀ : List ℕ
           λ room z j k. perform room (op_of z) z (value_at σ.world.rows j) (value_at σ.world.rows k) σ in
           let out : Out = perform ρ (op_of next.s) next.s (value_at reached.vs next.s.a) (value_at reached.vs next.s.b) σ in
           let by_step : Step → Room → Out = λ z r. by_rows r z (get_or values z.a 0) (get_or values z.b 0) in
-          let same_out : by_rows (room_in t) s x y ≡ out =
-          ap₂ (by_rows (room_in t) s) x_is y_is
-          ∙ ap₂ by_step (s_is ∙ next.read_is) (same_room before t L.same_tables)
-          ∙ next.same ρ in
+          let by_places : by_rows (room_in t) s x y ≡ by_step s (room_in t) = ap₂ (by_rows (room_in t) s) x_is y_is in
+          let as_read : by_step s (room_in t) ≡ by_step next.s ρ =
+          ap₂ by_step (s_is ∙ next.read_is) (same_room before t L.same_tables) in
+          let same_read : by_rows (room_in t) s x y ≡ by_step next.s ρ = by_places ∙ as_read in
+          let same_out : by_rows (room_in t) s x y ≡ out = ◌∙◌ {c = out} same_read (next.same ρ) in
           record {
             reached = reached;
             next = next;
