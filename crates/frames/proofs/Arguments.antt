@@ -25,13 +25,12 @@ pairs [] = omega arith
 pairs (x ∷ []) = omega arith
 pairs (x ∷ y ∷ rest) = let more = pairs rest in omega arith
 
-pub argument_is : (f : List ℕ) (i x : ℕ) → byte_at f (4 + 2 * i) < 256 → byte_at f (5 + 2 * i) < 256
-    → x ≡ from_be_bytes w16 (byte_at f (4 + 2 * i) ∷ byte_at f (5 + 2 * i) ∷ []) → ArgumentIs f i x
+pub argument_is : (f : List ℕ) (i x : ℕ) → x < 65536 → x ≡ from_be_bytes w16 (byte_at f (4 + 2 * i) ∷ byte_at f (5 + 2 * i) ∷ [])
+    → ArgumentIs f i x
 unfolding number_from
-argument_is f i x high low is =
+argument_is f i x small is =
     let next : 5 + 2 * i ≡ 4 + 2 * i + 1 = omega arith in
-    let value = rw (next, two_bytes (byte_at f (4 + 2 * i)) (byte_at f (4 + 2 * i + 1))) at is in
-    record { value = value; small = omega arith }
+    record { value = rw (next, two_bytes (byte_at f (4 + 2 * i)) (byte_at f (4 + 2 * i + 1))) at is; small = small }
 
 next_argument : (f : List ℕ) (i x : ℕ) → 6 + 2 * i ≤ length f → ArgumentIs f i x
     → args_of (drop (4 + 2 * i) f) ≡ arg_of x ∷ args_of (drop (4 + 2 * (i + 1)) f)

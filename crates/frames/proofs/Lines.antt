@@ -33,10 +33,10 @@ record LineTells (f : List ℕ) : Type 0 where
   pub whole : length f ≡ 4 + 2 * byte_at f 3
   pub fits : head_fits (byte_at f 1) (byte_at f 2) (byte_at f 3) ≡ true
 
-line_tells : (f : List ℕ) (b : Bool) → b ≡ line_formed f → b ≡ true → LineTells f
-line_tells f b is good =
+line_tells : (f : List ℕ) → line_formed f ≡ true → LineTells f
+line_tells f formed =
     let last = head_fits (byte_at f 1) (byte_at f 2) (byte_at f 3) in
-    let three = both (leb (byte_at f 1) 3 && leb (byte_at f 3) 4 && eqb (length f) (4 + 2 * byte_at f 3)) last (sym is ∙ good) in
+    let three = both (leb (byte_at f 1) 3 && leb (byte_at f 3) 4 && eqb (length f) (4 + 2 * byte_at f 3)) last formed in
     let two = both (leb (byte_at f 1) 3 && leb (byte_at f 3) 4) (eqb (length f) (4 + 2 * byte_at f 3)) three.0 in
     let one = both (leb (byte_at f 1) 3) (leb (byte_at f 3) 4) two.0 in
     record {
@@ -87,16 +87,16 @@ arguments_by (suc (suc zero)) number args = refl
 arguments_by (suc (suc (suc kind))) number args = refl
 
 -- ---- the refusals
-module _ (f : List ℕ) (kind : byte_at f 0 ≡ 3) (b : Bool) (is_b : b ≡ line_formed f) where
-  pub line_unformed : b ≡ false → (n m : ℕ) (h a k s : List ℕ) (place : ℕ) → 1 ≤ place → Takes place n m f (turn.Refused 4) h a k s h a k s
+module _ (f : List ℕ) (kind : byte_at f 0 ≡ 3) where
+  pub line_unformed : false ≡ line_formed f → (n m : ℕ) (h a k s : List ℕ) (place : ℕ) → 1 ≤ place → Takes place n m f (turn.Refused 4) h a k s h a k s
   line_unformed unformed n m h a k s place here c counted held =
-      let e : line_formed f ≡ false = sym is_b ∙ unformed in
+      let e : line_formed f ≡ false = sym unformed in
       refused 4 (is_in_place f (is_line f kind) counted (le-leb 1 place here) ∙ rw e) (λ q. omega arith) held
 
-  module _ (good : b ≡ true) (n m : ℕ) (k : List ℕ) (q : Bool) (is_q : q ≡ line_named f n m k) (x : ℕ)
+  module _ (good : true ≡ line_formed f) (n m : ℕ) (k : List ℕ) (q : Bool) (is_q : q ≡ line_named f n m k) (x : ℕ)
       (is_x : x ≡ (true else 4 then ltb m 1024 else 5 then q else 6 then 0)) where
     tells : LineTells f
-    tells = line_tells f b is_b good
+    tells = line_tells f (sym good)
 
     count : length (args_of (drop 4 f)) ≡ byte_at f 3
     count = arguments_count f (byte_at f 3) tells.whole
@@ -106,7 +106,7 @@ module _ (f : List ℕ) (kind : byte_at f 0 ≡ 3) (b : Bool) (is_b : b ≡ line
     unfolding line_named
     refusal_is {c} counted held =
         let cs = c.file.commands in
-        let e : line_formed f ≡ true = sym is_b ∙ good in
+        let e : line_formed f ≡ true = sym good in
         let same : q ≡ line_names cs m (line_of f) =
         is_q
         ∙ rw (counted.commands_are, ← count)

@@ -1,8 +1,8 @@
--- `frames::line::every_argument_names` meets its contract. The loop's invariant: the arguments from i on decide.
+-- `frames::line::LineFrame::every_argument_names` meets its contract. The loop's invariant: the arguments from i on decide.
 -- Assumes nothing.
 use native.Mathlib.Omega.{arith}
 use Rattle.frames.proofs.Arguments.{naming_turn, naming_fails, naming_done}
-use Rattle.frames.proofs.line.every_argument_names.Goals as goal
+use Rattle.frames.proofs.line.LineFrame.every_argument_names.Goals as goal
 
 pub returns-then-not-argument_names : goal.returns-then-not-argument_names
 returns-then-not-argument_names c =
