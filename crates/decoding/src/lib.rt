@@ -1,5 +1,6 @@
 // From the numbers of the lent tables back to steps and commands. The code is safe on any numbers, also on those that reading
 // never leaves, so each function speaks of any number.
+// Kept: `as` between `usize` and `u64`, or to fewer bits. Rust has no `From` there, and the check proves that nothing is lost.
 #![tactic(auto)]
 
 ghost use Rattle.std.specs.Prelude.{◌≡◌, min};

@@ -1,4 +1,5 @@
 // The library's entries for C and for other languages that can call C: each slice is a pointer and a length.
+// Kept: `as` between `usize` and `u64`, or to fewer bits. Rust has no `From` there, and the check proves that nothing is lost.
 #![tactic(auto)]
 
 ghost use Rattle.std.specs.Prelude.{◌≡◌};
@@ -53,6 +54,7 @@ fn run_numbers(run: Result<Ran, Refusal>) -> [u64; 5]
                 Some(Ending { full, line }) => (full.number(), line),
                 None => (0, 0),
             };
+            // Kept: C is told 65535 where no line is breached, as the header says.
             let first = ran.first_breach.unwrap_or(0xffff);
             [0, 0, ending as u64, place as u64, first as u64]
         }

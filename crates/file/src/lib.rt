@@ -43,6 +43,7 @@ fn read_frames(input: &[u8], tables: &mut FileTables<'_>) -> Result<Contents, Re
     ensures same_references { SameReferences tables.old tables.new }
 {
     // The longest frame has 67 bytes; a longer one that is cut here is refused as it would be whole.
+    // Kept: an array, since the project has no heap; what a line fills of it is lent as a slice.
     let mut buffer = [0u8; 68];
     let mut at = 0;
     let mut frame = 0;

@@ -12,6 +12,7 @@ use crate::{FileTables, Turn, lowest};
 use model::{Fault, Step};
 
 // A decoded command: how many parameters and steps it has, and the steps; the places behind them are zero.
+// Kept: an array with its count, since the project has no heap; its steps are lent as a slice wherever they are read.
 #[derive(Clone, Copy)]
 pub struct Command {
     pub params: u8,

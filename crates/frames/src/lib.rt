@@ -82,6 +82,7 @@ pub fn take_frame(f: &[u8], counts: Counts, tables: &mut FileTables<'_>) -> Resu
     if !counts.place.allows(f) {
         return Err(Fault::Misplaced);
     }
+    // Kept: the frame's first byte is the number that the documents give; an enum of it would be made and taken apart only here.
     match f[0] {
         1 => policy_turn(f),
         2 => command_turn(f, counts.commands, tables),

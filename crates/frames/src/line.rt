@@ -10,6 +10,7 @@ use crate::{FileTables, Turn, lowest};
 use model::Fault;
 
 // Whether the command's place and the argument count are as the kind has them.
+// Kept: the kind is a byte here, as in the model's `head_fits`, since it is asked before the frame is known to be formed.
 fn head_fits(kind: u8, command: u8, count: u8) -> bool
     ensures { result ≡ head_fits kind command count }
 {

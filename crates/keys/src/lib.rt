@@ -1,5 +1,6 @@
 // Stored keys: the search for a handle over the packed numbers, and the thin lookup over a lent slice of key records above it.
 // A caller has the table of the numbers only: `stored` makes the records and lends them.
+// Kept: `as` between `usize` and `u64`, or to fewer bits. Rust has no `From` there, and the check proves that nothing is lost.
 #![tactic(auto)]
 
 ghost use Rattle.std.specs.Prelude.{◌≡◌, ◌≤◌, ◌<◌, eqb, length, take, get_or, position};
@@ -41,6 +42,7 @@ fn find_handle(keys: &Filled<'_>, x: usize) -> Option<usize>
 }
 
 // The records of the stored keys; those after them are empty.
+// Kept: an array, since the project has no heap, and of all keys, since the lookup goes over a lent slice of records.
 fn records(keys: &Filled<'_>) -> [KeyRecord; 256]
     requires { length keys.now.table.now ≤ 256 }
     ensures { result ≡ records_of keys.now.table.now keys.now.len }

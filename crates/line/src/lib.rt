@@ -1,5 +1,6 @@
 // One line of the session: its arguments, left to right, then a call's steps or an operation of the attacker's own.
 // The token alone tells the code where it stands, so each function promises its part of every state and line that it carries.
+// Kept: `as` between `usize` and `u64`, or to fewer bits. Rust has no `From` there, and the check proves that nothing is lost.
 #![tactic(auto)]
 
 ghost use Rattle.std.specs.Prelude.{◌≡◌, List, ◌<◌, get_or};
@@ -79,6 +80,7 @@ fn argument(token: &mut Token<'_>, outcomes: &[u64], code: usize) -> Result<usiz
 }
 
 // The rows of the arguments, sixteen bits each in `args`, the first one lowest; the places after them are for the values that steps make.
+// Kept: an array for all the values that a call can have, since the project has no heap.
 fn take_arguments(
     token: &mut Token<'_>,
     outcomes: &[u64],

@@ -17,6 +17,7 @@ fn read_full<R: Read>(reader: &mut R, buffer: &mut [u8]) -> io::Result<usize>
     ensures end { IfOk result (λ n. n < length buffer.new → IsAtEnd (R.remaining reader.new)) }
 {
     let mut done = 0;
+    // Kept: how far a turn comes is what the reader says, and std's `read_to_end` needs the heap, which the project doesn't use.
     while done < buffer.len() {
         let n = reader.read(&mut buffer[done..])?;
         if n == 0 {
@@ -32,6 +33,7 @@ fn write_report<R: Read, W: Write>(reader: &mut R, writer: &mut W) -> io::Result
     ensures { OnOk result
         (IfSome (R.remaining reader.old) (λ input. Appends (W.contents writer.old) (W.contents writer.new) (answer input))) }
 {
+    // Kept: arrays of the lengths that the library asks for, since the project has no heap.
     let mut rows = [0u64; 4096];
     let mut keys = [0u64; 256];
     let mut heads = [0u64; 1024];

@@ -1,4 +1,5 @@
 // The program's output as lines of hexadecimal, written into a lent buffer.
+// Kept: `as` between `usize` and `u64`, or to fewer bits. Rust has no `From` there, and the check proves that nothing is lost.
 #![tactic(auto)]
 
 ghost use Rattle.std.specs.Prelude.{◌≡◌, List, [], ◌∷◌, ◌+◌, ◌*◌, ◌≤◌, ◌<◌, length, get_or};
@@ -81,6 +82,7 @@ fn end_frame(ran: Ran) -> [u8; 4]
         Some(ending) => ending.full.number() as u8,
         None => 0,
     };
+    // Kept: the documents' frame has ffff where no line is breached.
     let [high, low] = two_bytes(ran.first_breach.unwrap_or(0xffff));
     [0x83, ending, high, low]
 }

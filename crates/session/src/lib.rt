@@ -1,4 +1,5 @@
 // The session: all lines of a file, one after the other, on the symbolic token, with endings and breach marks.
+// Kept: `as` between `usize` and `u64`, or to fewer bits. Rust has no `From` there, and the check proves that nothing is lost.
 #![tactic(auto)]
 
 ghost use Rattle.std.specs.Prelude.{◌≡◌, List, ◌<◌, length};
@@ -37,6 +38,7 @@ fn is_breached(rows: &[u64], guards: &[u64], hand: &[bool]) -> bool
 }
 
 // A finished line as one number: its value's row, or 65535 where it stopped.
+// Kept: 65535 stands for no row in the table's numbers, which the header for C and `outcome_code` of the model lay down.
 fn outcome_number(row: Option<usize>, keys: usize, breached: bool) -> u64
     requires { RowBelow 4096 row × (keys < 65536) }
     ensures { result ≡ outcome_number row keys breached }
@@ -127,6 +129,7 @@ pub fn run_session(tables: Tables<'_>, m: usize) -> Session
         commands,
         steps,
     } = tables;
+    // Kept: arrays of as many places as there can be keys and rows, since the project has no heap.
     let mut guards = [0; 256];
     let mut hand = [false; 4096];
     let used = Counts {

@@ -1,6 +1,7 @@
 // The token over the lent tables: what one step does, in row numbers.
 // Inner functions promise counts and numbers where they can. What generate, store and the public functions promise is said of
 // every state that the tables may carry.
+// Kept: `as` between `usize` and `u64`, or to fewer bits. Rust has no `From` there, and the check proves that nothing is lost.
 #![tactic(auto)]
 
 ghost use Rattle.std.specs.Prelude.{◌≡◌, List, ℕ, ◌≤◌, ◌<◌, length};

@@ -124,6 +124,7 @@ fn judge_command(policy: Policy, frame: usize, code: u64, steps: &[u64]) -> Resu
 {
     let params = at_most(code % 256, 4);
     let count = at_most(code / 256, 16);
+    // Kept: an array for the most values that a command can have, since the project has no heap.
     let mut made = [Ty::Un; 20];
     for step in 0..count {
         let s = step_of(steps[step]);

@@ -1,5 +1,6 @@
 // Values as rows of a lent table: each row a number that codes a kind of value with the rows of its parts.
 // The inner functions' contracts speak of the numbers alone; those of the public functions, of the values that they hold.
+// Kept: `as` between `usize` and `u64`, or to fewer bits. Rust has no `From` there, and the check proves that nothing is lost.
 #![tactic(auto)]
 
 ghost use Rattle.std.specs.Prelude.{◌≡◌, false, List, ◌≤◌, ◌<◌, eqb, length, take, position};
