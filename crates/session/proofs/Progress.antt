@@ -9,6 +9,7 @@ use native.Mathlib.Decide.{dec_lt}
 use Rattle.std.proofs.Common.{Err, None, Ok, Option, Result, Some}
 use Rattle.std.proofs.lemmas.List.{get_or_default, map-append}
 use Rattle.std.specs.Bool.{then_some}
+use Rattle.std.specs.Option.{IfSome}
 use lib.Dec.{T, ltb}
 use lib.ListN.{length, get_or, take, drop, set, length-append, replicate, length-replicate, length-map, drop_of_length-le}
 use lib.Seq.{drop-cons, length-take-le, get_or-take}
@@ -59,6 +60,16 @@ first_marked_told fs = go (ltb (index_by mark fs) (length fs))
     go : (b : Bool) → breach_told (cond b (Some (index_by mark fs)) None) ≡ cond b (index_by mark fs) 0xffff
     go true = refl
     go false = refl
+
+first_marked_below : (fs : List Finished) {n : ℕ} → length fs ≤ n → IfSome (first_marked fs) (λ i. i < n)
+unfolding first_marked
+first_marked_below fs {n} few = go (dec_lt (index_by mark fs) (length fs))
+  where
+    go : Dec (index_by mark fs < length fs) → IfSome (cond (ltb (index_by mark fs) (length fs)) (Some (index_by mark fs)) None) (λ i. i < n)
+    go (yes l) =
+        let below : index_by mark fs < n = omega arith in
+        rw (lt-ltb (index_by mark fs) (length fs) l) below
+    go (no l) = rw (le-ltb (index_by mark fs) (length fs) (omega arith)) tt
 
 last_line_decides : (n : ℕ) (b : Bool) → cond (ltb (n + cond b 0 1) (suc n)) (Some (n + cond b 0 1)) None ≡ then_some b n
 last_line_decides n true =
@@ -482,6 +493,7 @@ module _ {φ : File} {t : Token} {hand : List Bool} {outcomes : List ℕ} {i : �
         ending_is = refl;
         place_is = refl;
         first_is = ap breach_told at.first_is ∙ first_marked_told at.session.finished;
+        first_below = rw at.first_is (first_marked_below at.session.finished at.finishing.few);
         finished_is = omega (arith, at.finished_count);
         rows_are = leaves.rows ∙ carried.rows_held.is ∙ ap (λ k. padded k (row_codes σ.world.rows)) long.rows;
         keys_are = leaves.keys ∙ carried.keys_are ∙ ap (λ k. padded k (map (key_code σ.world.rows) σ.token.stored)) long.keys;

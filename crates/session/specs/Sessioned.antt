@@ -1,7 +1,7 @@
 -- A session over the lent tables: what is given to the code that runs it, and what it answers and leaves.
 use Rattle.std.specs.Prelude.{ℕ, ◌+◌, ◌*◌, ◌≤◌, ◌<◌, ◌≡◌, Bool, true, false, cond, ◌||◌, List, Option, Some, None, Result, Ok, Err, map}
 use Rattle.std.specs.Prelude.{length, get_or, take, set}
-use Rattle.std.specs.Option.{option_or}
+use Rattle.std.specs.Option.{IfSome, option_or}
 use Rattle.std.specs.Bool.{then_some}
 use Rattle.model.specs.Basics.{some}
 use Rattle.model.specs.Value.{Value, is_const, value_at}
@@ -131,6 +131,7 @@ pub record RanIs (run : Run) (r : Session) (t : Tables) : Type 0 where
   pub ending_is : ending_number r.ran.ending ≡ run.ending
   pub place_is : ending_place r.ran.ending ≡ run.place
   pub first_is : breach_told r.ran.first_breach ≡ first_breach run.session.finished
+  pub first_below : IfSome r.ran.first_breach (λ i. i < 1024)
   pub finished_is : r.finished ≡ length run.session.finished
   pub rows_are : t.rows ≡ padded 4096 (row_codes run.session.state.world.rows)
   pub keys_are : t.keys ≡ padded 256 (map (key_code run.session.state.world.rows) run.session.state.token.stored)
