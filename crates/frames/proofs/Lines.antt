@@ -88,7 +88,8 @@ arguments_by (suc (suc (suc kind))) number args = refl
 
 -- ---- the refusals
 module _ (f : List ℕ) (kind : byte_at f 0 ≡ 3) where
-  pub line_unformed : false ≡ line_formed f → (n m : ℕ) (h a k s : List ℕ) (place : ℕ) → 1 ≤ place → Takes place n m f (turn.Refused 4) h a k s h a k s
+  pub line_unformed : false ≡ line_formed f → (n m : ℕ) (h a k s : List ℕ) (place : ℕ) → 1 ≤ place
+      → Takes place n m f (turn.Refused 4) h a k s h a k s
   line_unformed unformed n m h a k s place here c counted held =
       let e : line_formed f ≡ false = sym unformed in
       refused 4 (is_in_place f (is_line f kind) counted (le-leb 1 place here) ∙ rw e) (λ q. omega arith) held

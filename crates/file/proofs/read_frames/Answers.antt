@@ -64,7 +64,7 @@ loop-at-preserved c =
     let v = c.loop-at.invariant in
     let some = some_told c.scan_line.result _ (c.in_ok-line.ensures).value in
     let turn = ap turn_told (turn_kept c.take_frame-turn.result _ (c.in_ok-turn.ensures)) in
-    let after = c.take_frame-turn.new.tables in
+    let left = c.take_frame-turn.new.tables in
     let answer = c.take_frame-turn.ensures.answer in
     let same = c.take_frame-turn.ensures.same_references in
     record {
@@ -72,13 +72,13 @@ loop-at-preserved c =
           elim c.match-turn.branch [
             | in-Policy w ↦
                 rw (w.policy-is, w.counts-is)
-                (policy_taken v.progress c.loop-at-test.true v.sized c.scan_line.ensures some refl after answer (turn ∙ rw w.in-Policy.is))
+                (policy_taken v.progress c.loop-at-test.true v.sized c.scan_line.ensures some refl left answer (turn ∙ rw w.in-Policy.is))
             | in-Command w ↦
                 rw (w.policy-is, w.counts-is)
-                (command_taken v.progress c.loop-at-test.true v.sized c.scan_line.ensures some refl after answer (turn ∙ rw w.in-Command.is))
+                (command_taken v.progress c.loop-at-test.true v.sized c.scan_line.ensures some refl left answer (turn ∙ rw w.in-Command.is))
             | in-Line w ↦
                 rw (w.policy-is, w.counts-is)
-                (line_taken v.progress c.loop-at-test.true v.sized c.scan_line.ensures some refl after answer (turn ∙ rw w.in-Line.is))
+                (line_taken v.progress c.loop-at-test.true v.sized c.scan_line.ensures some refl left answer (turn ∙ rw w.in-Line.is))
           ];
       sized = omega arith;
       same = (same.0 ∙ v.same.0, same.1 ∙ v.same.1, same.2 ∙ v.same.2, same.3 ∙ v.same.3);
