@@ -2,7 +2,7 @@
 // None has a requirement; what each promises is a record of the crate model (specs/Tables.antt).
 #![tactic(auto)]
 
-ghost use Rattle.std.specs.Prelude.{◌≡◌, ◌↔◌};
+ghost use Rattle.std.specs.Prelude.{◌≡◌, ◌<◌, ◌↔◌, IfOk, IfSome};
 ghost use Rattle.model.specs.Tables.{read_into, read_answer, ReadIs, VerdictIs, RunIs, ReportIs};
 ghost use Rattle.model.specs.Told.{lent, left, read_told, verdict_told, run_told};
 ghost use Rattle.model.specs.declared.Refusal.{Refusal};
@@ -63,7 +63,8 @@ pub fn verdict(input: &[u8], tables: Tables<'_>) -> Result<(), Rejection>
 // The run of an input's session on the symbolic token; the tables of rows, stored keys and outcomes are left as after the last
 // finished line.
 pub fn run(input: &[u8], tables: Tables<'_>) -> Result<Ran, Refusal>
-    ensures { RunIs input.now (lent tables.entry) (run_told result) (left tables.exit) }
+    ensures answer { RunIs input.now (lent tables.entry) (run_told result) (left tables.exit) }
+    ensures breach { IfOk result (λ r. IfSome r.first_breach (λ i. i < 1024)) }
 {
     let Tables {
         rows,

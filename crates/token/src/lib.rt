@@ -63,7 +63,7 @@ fn computed(rows: &mut Filled<'_>, operation: Operation, x: usize, y: usize) -> 
     match operation {
         Operation::Encrypt => values::encrypt_rows(rows, x, y),
         Operation::Decrypt => values::decrypt_rows(rows, x, y),
-        Operation::Derive(label) => values::derive_row(rows, label, y),
+        Operation::Derive(label) => values::derive_row(rows, usize::from(label), y),
     }
 }
 

@@ -135,13 +135,13 @@ pub fn decrypt_rows(rows: &mut Filled<'_>, a: usize, b: usize) -> Option<usize>
 }
 
 // What is derived from row b under the label appears.
-pub fn derive_row(rows: &mut Filled<'_>, label: u8, b: usize) -> Option<usize>
-    requires { (rows.old.len ≤ 65536) × (b < rows.old.len) }
+pub fn derive_row(rows: &mut Filled<'_>, label: usize, b: usize) -> Option<usize>
+    requires { (rows.old.len ≤ 65536) × (label < 65536) × (b < rows.old.len) }
     ensures same_table { SameTable rows.old rows.new }
     ensures appears { (vs : List Value) → Holds rows.old.table.now vs → rows.old.len ≡ length vs
         → AppearedIn (div label (value_at vs b)) vs result rows.old rows.new }
 {
-    intern(rows, Row::Div(usize::from(label), b))
+    intern(rows, Row::Div(label, b))
 }
 
 // Whether a number codes a constant.

@@ -6,4 +6,4 @@ use Rattle.values.proofs.appearing.derive_row.Goals as goal
 
 pub returns-clause-appears : goal.returns-clause-appears
 returns-clause-appears c =
-    λ vs H count. derive_appears c.args.rows.now H count (omega arith) (omega arith) (rw c.from.ensures at c.intern.ensures.interns)
+    λ vs H count. derive_appears c.args.rows.now H count (omega arith) (omega arith) c.intern.ensures.interns
