@@ -44,6 +44,7 @@ pub fn decode(part: &[u8], params: u8, count: u8) -> Command
 }
 
 // The first return, which has op 0.
+// Kept: the byte, as in the model's `returns_last`; asked of `s.op()` it would first be shown that no other op is `Return`.
 fn first_return(steps: &[Step]) -> Option<usize>
     ensures { result ≡ position (λ s. eqb s.op 0) steps.now }
 {

@@ -1,5 +1,6 @@
 // One line of the session: its arguments, left to right, then a call's steps or an operation of the attacker's own.
 // The token alone tells the code where it stands, so each function promises its part of every state and line that it carries.
+// Kept: three slices beside the token. They are read alone, and parts of one struct of references can't be lent at the same time.
 // Kept: `as` between `usize` and `u64`, or to fewer bits. Rust has no `From` there, and the check proves that nothing is lost.
 #![tactic(auto)]
 

@@ -16,6 +16,7 @@ use model::{Broken, Ran, Refusal};
 
 const DIGITS: &[u8; 16] = b"0123456789abcdef";
 
+// Kept: std writes hexadecimal through a formatter, as text; here each digit goes to a place of a lent buffer.
 fn digit(n: u8) -> u8
     requires { n < 16 }
     ensures { result ≡ get_or digits n 0 }

@@ -1,6 +1,8 @@
 // The token over the lent tables: what one step does, in row numbers.
 // Inner functions promise counts and numbers where they can. What generate, store and the public functions promise is said of
 // every state that the tables may carry.
+// Kept: `ReadyIn` as a clause. That atoms are no more than rows fails after an ending, so it is no fact of every token; and the tables
+// lie flat beside their counts, since of a `Filled` inside the token nobody would know afterwards what it left in a caller's slice.
 // Kept: `as` between `usize` and `u64`, or to fewer bits. Rust has no `From` there, and the check proves that nothing is lost.
 #![tactic(auto)]
 

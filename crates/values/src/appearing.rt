@@ -1,5 +1,7 @@
 // Values as rows of a lent table: each row a number that codes a kind of value with the rows of its parts.
 // The inner functions' contracts speak of the numbers alone; those of the public functions, of the values that they hold.
+// Kept: `Holds` of every list of values, in each contract. No list goes through the code, and a ghost field that had one would stand in
+// the tables of keys too, which hold none.
 // Kept: `as` between `usize` and `u64`, or to fewer bits. Rust has no `From` there, and the check proves that nothing is lost.
 #![tactic(auto)]
 
