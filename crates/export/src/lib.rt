@@ -1,4 +1,5 @@
 // The library's entries for C and for other languages that can call C: each slice is a pointer and a length.
+// Kept: the names and parameters that C calls the four entries by, and so what they begin with.
 // Kept: `as` between `usize` and `u64`, or to fewer bits. Rust has no `From` there, and the check proves that nothing is lost.
 #![tactic(auto)]
 

@@ -1,4 +1,6 @@
 // The types that the definitions of specs/ and the code share. What they mean is said there.
+// Kept: `None` of `Ty`, `Nothing` of `Use` and `Unknown` of `Op`, since definitions and theorems of the model name them, and no Option.
+// Kept: `as` of an enum without fields, which gives its number.
 #![tactic(auto)]
 
 ghost use Rattle.std.specs.Prelude.{◌≡◌, ◌<◌};
