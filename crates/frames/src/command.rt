@@ -13,7 +13,7 @@ use model::{Fault, Step};
 
 // A decoded command: how many parameters and steps it has, and the steps; the places behind them are zero.
 // Kept: an array with its count, since the project has no heap; its steps are lent as a slice wherever they are read.
-#[derive(Clone, Copy)]
+#[derive(Clone, Copy, PartialEq, Eq, Debug)]
 pub struct Command {
     pub params: u8,
     pub count: u8,
