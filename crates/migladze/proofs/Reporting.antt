@@ -1,14 +1,12 @@
 -- What is printed for an input is the model's answer: its numbers fit their bytes, and the printed parts are the answer's parts.
 -- Assumes nothing.
-use Rattle.std.proofs.Common.{ℕ, ◌≤◌, ◌<◌, ◌≡◌, sym, ap, ◌∙◌, Bool, true, false, cond, List, map, length, take, ltb, Err, arith}
+use Rattle.std.proofs.Common.{ℕ, ◌≤◌, ◌<◌, ◌≡◌, sym, ap, ◌∙◌, Bool, true, false, cond, List, map, length, take, arith}
+use Rattle.std.proofs.Common.{Err, Option, Some, None, IfSome}
 use Rattle.std.proofs.lemmas.List.{length-map}
-use lib.Dec.{ltb→lt}
-use Rattle.model.specs.Basics.{index_by}
 use Rattle.model.specs.Typing.{Verdict, verdict}
-use Rattle.model.specs.Session.{Finished}
 use Rattle.model.specs.Text.{written}
 use Rattle.model.specs.File.{refused, parse}
-use Rattle.model.specs.Report.{refusal_frame, run_of, first_breach, answer_to}
+use Rattle.model.specs.Report.{refusal_frame, run_of, answer_to}
 use Rattle.model.specs.Tables.{outcome_code, Tables, right_lengths, read_into, ReadIs, ReportIs, Reported, report_size}
 use Rattle.model.specs.Numbers.{fault_number}
 use Rattle.model.specs.Told.{read_told, ending_number, breach_told}
@@ -46,13 +44,6 @@ module _ {input : List ℕ} {lent left : Tables} (r : Refusal) (h : ReadIs input
 
 -- ---- a file
 
-first_in_bytes : (fs : List Finished) → length fs ≤ 1024 → first_breach fs < 65536
-first_in_bytes fs few = go (ltb (index_by (λ f. f.breach) fs) (length fs)) (λ t. ltb→lt (index_by (λ f. f.breach) fs) (length fs) t)
-  where
-    go : (b : Bool) → (lib.Dec.T b → index_by (λ f. f.breach) fs < length fs) → cond b (index_by (λ f. f.breach) fs) 0xffff < 65536
-    go true below = let l = below tt in omega arith
-    go false below = omega arith
-
 module _ {input : List ℕ} {lent left : Tables} {c : Contents} (f : TakenFile input lent left c) where
   pub verdict_in_bytes : {v : Verdict} → v ≡ verdict f.φ.policy f.φ.commands → VerdictFits v
   verdict_in_bytes e =
@@ -86,7 +77,11 @@ module _ {input : List ℕ} {lent left : Tables} {c : Contents} (f : TakenFile i
     }
 
     pub breach_in_bytes : breach_told s.ran.first_breach < 65536
-    breach_in_bytes = rw h.first_is (first_in_bytes (run_of f.φ).session.finished h.few_lines)
+    breach_in_bytes = go s.ran.first_breach h.first_below
+      where
+        go : (a : Option ℕ) → IfSome a (λ i. i < 1024) → breach_told a < 65536
+        go (Some i) below = omega arith
+        go None below = omega arith
 
     abbrev printed_for : Verdict → List ℕ
     printed_for v = report_bytes v (run_of f.φ).session.finished (ending_number s.ran.ending) (breach_told s.ran.first_breach)
