@@ -89,7 +89,6 @@ fn clear_read(tables: &mut FileTables<'_>)
 }
 
 // An input into cleared tables: its length first, then the frames. A refusal leaves the tables zero.
-// Kept: four slices, of which it builds the struct: from parts of `Tables` nothing was known at exit of what the struct left in them.
 fn read_cleared(
     input: &[u8],
     heads: &mut [u64],
