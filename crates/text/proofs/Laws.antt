@@ -1,26 +1,22 @@
--- Laws of lines and digits: what a byte is worth, where a line ends, what the loop of scan_line keeps and what each of its
--- exits answers, and what a caller knows of lines.
+-- Laws of lines and digits: what a byte is worth, how the pairs at the front of the rest tell the first line, what the loop over the
+-- pairs keeps, and what a caller knows of lines.
 -- Assumes nothing.
-use Prim.Native.Nat.{ℕ, zero, suc, ◌+◌, ◌-◌, ◌*◌, ◌/◌, ◌%◌, ◌≤◌, ◌<◌, min}
-use mathlib.Core.Path.{◌≡◌, refl, sym, ◌∙◌, subst}
-use mathlib.Core.Bool.{Bool, true, false, cond, ◌&&◌, and-false}
+use Prim.Native.Nat.{ℕ, zero, suc, ◌+◌, ◌-◌, ◌*◌, ◌/◌, ◌≤◌, ◌<◌, min}
+use mathlib.Core.Path.{◌≡◌, refl, sym, ap, ◌∙◌, subst}
+use mathlib.Core.Bool.{Bool, true, false, cond, ◌&&◌, and-false, and-true}
 use mathlib.Core.List.{List, [], ◌∷◌}
 use native.Mathlib.Nat.{zero-lt-suc}
 use native.Mathlib.Numerals.{add-one, add-two}
-use native.Mathlib.Decide.{dec_lt}
 use native.Mathlib.Omega.{arith}
-use lib.ListN.{length, get_or, take, drop, set, length-set, length-drop, drop_of_length-le}
-use lib.Seq.{drop-cons, take_all, take-suc-set, take-suc, length-take-le, drop-drop}
+use lib.ListN.{length, get_or, take, drop, set, length-set, length-drop}
+use lib.Seq.{drop-cons, take_all, take-suc-set, take-suc, take-take, length-take-le, drop-drop}
 use lib.Dec.{T, eqb, ltb, leb, eqb→eq, ltb→lt}
-use borrow.Author.Tests.{lt-ltb, le-ltb}
+use borrow.Author.Tests.{lt-ltb, le-ltb, ne_eqb}
 use Rattle.std.specs.Prelude.{Option, Some, None}
-use Rattle.std.specs.List.{position, position_or_len}
-use Rattle.std.proofs.lemmas.List.Quantifiers.{position-Some}
-use Rattle.std.proofs.lemmas.List.Sums.{fails_before_first}
 use Rattle.model.specs.Basics.{up_from}
 use Rattle.model.specs.Text.{newline, TextLine, on_first, lines_of, digit_value, is_digit, in_pairs, well_written, bytes_of}
 use Rattle.model.proofs.Tests.{and_left, and_right, every_in_range}
-use Rattle.text.specs.Scan.{taken, after, scanned, paired, PairsAre, ScanIs}
+use Rattle.text.specs.Scan.{taken, after, scanned, pairs_in, starts_with_newline, PairsAre, ScanIs}
 use Rattle.text.specs.declared.Scanned.{Scanned}
 
 -- ---- what a byte is worth: a test of each byte that antt computes
@@ -35,24 +31,12 @@ byte_worth b h =
 
 -- ---- pairs of digits
 
-first_pair : (x y : ℕ) (p : List ℕ) → T (in_pairs (x ∷ y ∷ p)) → T (is_digit x) × T (is_digit y) × T (in_pairs p)
-unfolding in_pairs
-first_pair x y p t =
-    let both = and_left (is_digit x && is_digit y) (in_pairs p) t in
-    (and_left (is_digit x) (is_digit y) both, and_right (is_digit x) (is_digit y) both, and_right (is_digit x && is_digit y) (in_pairs p) t)
-
 -- two digits a byte
 bytes_between : (p : List ℕ) → (2 * length (bytes_of p) ≤ length p) × (length p < 2 * length (bytes_of p) + 2)
 unfolding bytes_of
 bytes_between [] = omega arith
 bytes_between (x ∷ []) = omega arith
 bytes_between (x ∷ y ∷ p) = let more = bytes_between p in omega arith
-
-odd_unpaired : (p : List ℕ) → (length p % 2 ≡ 0 → ⊥) → in_pairs p ≡ false
-unfolding in_pairs
-odd_unpaired [] odd = absurd (odd refl)
-odd_unpaired (x ∷ []) odd = refl
-odd_unpaired (x ∷ y ∷ p) odd = rw (odd_unpaired p (λ e. odd (omega arith)), and-false (is_digit x && is_digit y))
 
 -- the pair at a place decides with those after it, and is one of the bytes
 drop_two : (s : List ℕ) (i : ℕ) → i + 1 < length s → drop i s ≡ get_or s i 0 ∷ get_or s (i + 1) 0 ∷ drop (i + 2) s
@@ -75,30 +59,106 @@ byte_there (x ∷ y ∷ p) (suc i) h =
     let f : 2 * suc i + 1 ≡ suc (suc (2 * i + 1)) = omega arith in
     rw (f, e) (byte_there p i (omega arith))
 
--- ---- where a line ends
+-- the bytes of the first pairs are the first bytes
+bytes_of_front : (n : ℕ) (s : List ℕ) → bytes_of (take (2 * n) s) ≡ take n (bytes_of s)
+unfolding bytes_of
+bytes_of_front zero s = refl
+bytes_of_front (suc n) [] = let e : 2 * suc n ≡ suc (suc (2 * n)) = omega arith in rw e
+bytes_of_front (suc n) (x ∷ []) = let e : 2 * suc n ≡ suc (suc (2 * n)) = omega arith in rw e
+bytes_of_front (suc n) (x ∷ y ∷ s) =
+    let e : 2 * suc n ≡ suc (suc (2 * n)) = omega arith in
+    rw (e, bytes_of_front n s)
 
-abbrev pub is_newline : ℕ → Bool
-is_newline b = eqb b newline
-
-line_ends : (s : List ℕ) (n : ℕ) → n < length s → is_newline (get_or s n 0) ≡ true → ((k : ℕ) → k < n → is_newline (get_or s k 0) ≡ false)
-    → lines_of s ≡ record { body = take n s; ended = true } ∷ lines_of (drop (suc n) s)
-unfolding lines_of
-line_ends [] n h here before = absurd (omega arith)
-line_ends (x ∷ s) zero h here before = rw here
-line_ends (x ∷ s) (suc n) h here before =
-    rw (before 0 (omega arith), line_ends s n (omega arith) here (λ k below. before (suc k) (omega arith)))
-
-never_ends : (s : List ℕ) → ((k : ℕ) → k < length s → is_newline (get_or s k 0) ≡ false) → (l : TextLine) (ls : List TextLine)
-    → lines_of s ≡ l ∷ ls → l.ended ≡ false
-unfolding lines_of
-never_ends [] none l ls q = absurd (let z : ◌≡◌ {A = ℕ} 0 1 = cc in omega arith)
-never_ends (x ∷ s) none l ls q =
-    at (never_ends s (λ k below. none (suc k) (omega arith))) (lines_of s) refl (rw (none 0 (omega arith)) at q)
+pairs_fit : (s : List ℕ) → 2 * pairs_in s ≤ length s
+unfolding pairs_in
+pairs_fit [] = omega arith
+pairs_fit (x ∷ []) = omega arith
+pairs_fit (x ∷ y ∷ s) = by (is_digit x && is_digit y) (pairs_fit s)
   where
-    at : ((m : TextLine) (ms : List TextLine) → lines_of s ≡ m ∷ ms → m.ended ≡ false) → (ts : List TextLine) → lines_of s ≡ ts
-        → on_first x ts ≡ l ∷ ls → l.ended ≡ false
-    at later [] e q = let is : l ≡ record { body = x ∷ []; ended = false } = cc in rw is
-    at later (m ∷ ms) e q = let is : l ≡ record { body = x ∷ m.body; ended = m.ended } = cc in rw is (later m ms e)
+    by : (b : Bool) → 2 * pairs_in s ≤ length s → 2 * cond b (suc (pairs_in s)) 0 ≤ length (x ∷ y ∷ s)
+    by true h = omega arith
+    by false h = omega arith
+
+-- a part too short for a pair has none
+no_pairs : (s : List ℕ) → length s < 2 → pairs_in s ≡ 0
+unfolding pairs_in
+no_pairs [] h = refl
+no_pairs (x ∷ []) h = refl
+no_pairs (x ∷ y ∷ s) h = absurd (omega arith)
+
+-- ---- the first line, by the pairs at the front and the byte after them
+
+both_true : (a b : Bool) → a && b ≡ true → (a ≡ true) × (b ≡ true)
+both_true true b e = (refl, e)
+both_true false b e = absurd (let z : ◌≡◌ {A = ℕ} 0 1 = cc in omega arith)
+
+digit_no_newline : (x : ℕ) → is_digit x ≡ true → eqb x newline ≡ false
+unfolding digit_value
+digit_no_newline x t = ne_eqb x newline (λ e. absurd (subst (λ (k : ℕ). T (is_digit k)) e (rw t tt)))
+
+abbrev pub after_pairs : List ℕ → List ℕ
+after_pairs s = drop (2 * pairs_in s) s
+
+-- whether the first line, if there is one, has its newline and is in pairs of digits
+abbrev starts_well : List TextLine → Bool
+starts_well [] = false
+starts_well (l ∷ ls) = l.ended && in_pairs l.body
+
+-- where the first two bytes are no pair, only a newline at once starts well
+module _ (x y : ℕ) (s : List ℕ) (none : is_digit x && is_digit y ≡ false) where
+  no_pair_tells : starts_well (lines_of (x ∷ y ∷ s)) ≡ eqb x newline
+  unfolding lines_of in_pairs
+  no_pair_tells = by (eqb x newline) (eqb y newline) (lines_of s)
+    where
+      by : (b c : Bool) (ts : List TextLine)
+          → starts_well (cond b (record { body = []; ended = true } ∷ cond c (record { body = []; ended = true } ∷ ts) (on_first y ts))
+          (on_first x (cond c (record { body = []; ended = true } ∷ ts) (on_first y ts)))) ≡ b
+      by true c ts = refl
+      by false true ts = refl
+      by false false [] = refl
+      by false false (l ∷ ls) = rw (none, and-false l.ended)
+
+pairs_tell : (s : List ℕ) → starts_well (lines_of s) ≡ starts_with_newline (after_pairs s)
+unfolding lines_of in_pairs pairs_in
+pairs_tell [] = refl
+pairs_tell (x ∷ []) = by (eqb x newline)
+  where
+    by : (b : Bool) → starts_well (cond b (record { body = []; ended = true } ∷ []) (record { body = x ∷ []; ended = false } ∷ [])) ≡ b
+    by true = refl
+    by false = refl
+pairs_tell (x ∷ y ∷ s) = by (is_digit x) (is_digit y) refl refl (pairs_tell s)
+  where
+    passed : (ts : List TextLine) → is_digit x ≡ true → is_digit y ≡ true → starts_well (on_first x (on_first y ts)) ≡ starts_well ts
+    passed [] a b = refl
+    passed (l ∷ ls) a b = rw (a, b)
+
+    by : (a b : Bool) → is_digit x ≡ a → is_digit y ≡ b → starts_well (lines_of s) ≡ starts_with_newline (after_pairs s)
+        → starts_well (lines_of (x ∷ y ∷ s)) ≡ starts_with_newline (after_pairs (x ∷ y ∷ s))
+    by true true p q later =
+        let two : 2 * suc (pairs_in s) ≡ suc (suc (2 * pairs_in s)) = omega arith in
+        rw (digit_no_newline x p, digit_no_newline y q, p, q, two) (passed (lines_of s) p q ∙ later)
+    by true false p q later = rw (p, q) (no_pair_tells x y s (rw (p, q)))
+    by false b p q later = rw p (no_pair_tells x y s (rw p))
+
+-- a newline after the pairs ends the first line there
+line_of_pairs : (s : List ℕ) → starts_with_newline (after_pairs s) ≡ true
+    → lines_of s ≡ record { body = take (2 * pairs_in s) s; ended = true } ∷ lines_of (drop (suc (2 * pairs_in s)) s)
+unfolding lines_of in_pairs pairs_in
+line_of_pairs [] e = absurd (let z : ◌≡◌ {A = ℕ} 0 1 = cc in omega arith)
+line_of_pairs (x ∷ []) e = rw e
+line_of_pairs (x ∷ y ∷ s) e = by (is_digit x && is_digit y) refl e (line_of_pairs s)
+  where
+    by : (b : Bool) → is_digit x && is_digit y ≡ b → starts_with_newline (after_pairs (x ∷ y ∷ s)) ≡ true
+        → (starts_with_newline (after_pairs s) ≡ true
+        → lines_of s ≡ record { body = take (2 * pairs_in s) s; ended = true } ∷ lines_of (drop (suc (2 * pairs_in s)) s))
+        → lines_of (x ∷ y ∷ s) ≡ record { body = take (2 * pairs_in (x ∷ y ∷ s)) (x ∷ y ∷ s); ended = true }
+        ∷ lines_of (drop (suc (2 * pairs_in (x ∷ y ∷ s))) (x ∷ y ∷ s))
+    by true p e later =
+        let two : 2 * suc (pairs_in s) ≡ suc (suc (2 * pairs_in s)) = omega arith in
+        let digits = both_true (is_digit x) (is_digit y) p in
+        let ends : starts_with_newline (after_pairs s) ≡ true = rw (p, two) at e in
+        rw (p, two, digit_no_newline x digits.0, digit_no_newline y digits.1, later ends)
+    by false p e later = let ends : eqb x newline ≡ true = rw p at e in rw (p, ends)
 
 -- ---- what a caller knows of lines
 
@@ -159,85 +219,74 @@ module _ {input : List ℕ} {at : ℕ} {l : TextLine} {ls : List TextLine} {befo
       by true x q = let z : ◌≡◌ {A = ℕ} 0 1 = cc in absurd (omega arith)
       by false x q = refl
 
--- ---- the pairs of a line
+-- ---- the loop over the pairs
 
-unpaired : {digits before exit : List ℕ} → paired digits ≡ false → length exit ≡ length before → PairsAre digits None before exit
-unpaired e kept = record { answer = rw e; front = λ t. absurd (subst T e t); length_kept = kept }
-
-pub no_digits : (digits before : List ℕ) → length digits ≡ 0 → PairsAre digits None before before
-no_digits digits before e = unpaired (rw e) refl
-
-pub digit_left : (digits before : List ℕ) → (length digits % 2 ≡ 0 → ⊥) → PairsAre digits None before before
-digit_left digits before h = unpaired (rw (odd_unpaired digits h, and-false (ltb 0 (length digits)))) refl
-
--- the loop: the pairs from the i-th on decide, and the buffer holds as many of the bytes before it as it has room for
-pub record Writing (digits before frame : List ℕ) (i : ℕ) : Type 0 where
-  pub decide : in_pairs digits ≡ in_pairs (drop (2 * i) digits)
-  pub front : take (min i (length before)) frame ≡ take (min i (length before)) (bytes_of digits)
+-- those before the i-th are pairs of digits, and the buffer holds as many of their bytes as it has room for
+pub record Writing (s before frame : List ℕ) (i : ℕ) : Type 0 where
+  pub count : pairs_in s ≡ i + pairs_in (drop (2 * i) s)
+  pub front : take (min i (length before)) frame ≡ take (min i (length before)) (bytes_of s)
   pub length_kept : length frame ≡ length before
 
-start : (digits before : List ℕ) → Writing digits before before 0
-start digits before = let none : min 0 (length before) ≡ 0 = omega arith in record { decide = refl; front = rw none; length_kept = refl }
+pub start : (s before : List ℕ) → Writing s before before 0
+start s before =
+    let none : min 0 (length before) ≡ 0 = omega arith in
+    let same : pairs_in s ≡ 0 + pairs_in s = omega arith in
+    record { count = same; front = rw none; length_kept = refl }
 
-module _ {digits before frame : List ℕ} {i : ℕ} (v : Writing digits before frame i) where
+module _ {s before frame : List ℕ} {i : ℕ} (v : Writing s before frame i) where
   abbrev high : ℕ
-  high = get_or digits (2 * i) 0
+  high = get_or s (2 * i) 0
 
   abbrev low : ℕ
-  low = get_or digits (2 * i + 1) 0
+  low = get_or s (2 * i + 1) 0
 
-  module _ (more : i < length digits / 2) where
-    pair_decides : in_pairs digits ≡ (is_digit high && is_digit low && in_pairs (drop (2 * (i + 1)) digits))
-    unfolding in_pairs
-    pair_decides =
+  -- the i-th is the first that is none
+  stops : pairs_in (drop (2 * i) s) ≡ 0 → PairsAre s i before frame
+  stops none = record { count = omega (arith, v.count, none); front = v.front; length_kept = v.length_kept }
+
+  pub all_written : i ≡ length s / 2 → PairsAre s (length s / 2) before frame
+  all_written all =
+      subst (λ (n : ℕ). PairsAre s n before frame) all (stops (no_pairs (drop (2 * i) s) (omega (arith, length-drop (2 * i) s))))
+
+  module _ (more : i < length s / 2) where
+    pair_there : pairs_in (drop (2 * i) s) ≡ cond (is_digit high && is_digit low) (suc (pairs_in (drop (2 * (i + 1)) s))) 0
+    unfolding pairs_in
+    pair_there =
         let next : 2 * (i + 1) ≡ 2 * i + 2 = omega arith in
-        v.decide ∙ rw (drop_two digits (2 * i) (omega arith), next)
+        rw (drop_two s (2 * i) (omega arith), next)
 
-    pub no_high : 16 ≤ digit_value high → PairsAre digits None before frame
-    no_high h = unpaired (rw (pair_decides, le-ltb (digit_value high) 16 h, and-false (ltb 0 (length digits)))) v.length_kept
+    pub no_high : 16 ≤ digit_value high → PairsAre s i before frame
+    no_high h = stops (rw (pair_there, le-ltb (digit_value high) 16 h))
 
-    pub no_low : 16 ≤ digit_value low → PairsAre digits None before frame
-    no_low h =
-        unpaired (rw (pair_decides, le-ltb (digit_value low) 16 h, and-false (is_digit high), and-false (ltb 0 (length digits))))
-        v.length_kept
+    pub no_low : 16 ≤ digit_value low → PairsAre s i before frame
+    no_low h = stops (rw (pair_there, le-ltb (digit_value low) 16 h, and-false (is_digit high)))
 
     module _ (high_is : digit_value high < 16) (low_is : digit_value low < 16) where
-      decide_after : in_pairs digits ≡ in_pairs (drop (2 * (i + 1)) digits)
-      decide_after = pair_decides ∙ rw (lt-ltb (digit_value high) 16 high_is, lt-ltb (digit_value low) 16 low_is)
+      count_after : pairs_in s ≡ i + 1 + pairs_in (drop (2 * (i + 1)) s)
+      count_after =
+          let here : pairs_in (drop (2 * i) s) ≡ suc (pairs_in (drop (2 * (i + 1)) s)) =
+          rw (pair_there, lt-ltb (digit_value high) 16 high_is, lt-ltb (digit_value low) 16 low_is) in
+          omega (arith, v.count, here)
 
-      pub stored : i < length frame → {b : ℕ} {frame' : List ℕ} → frame' ≡ set frame i b → b ≡ pair_at digits i
-          → Writing digits before frame' (i + 1)
+      pub stored : i < length frame → {b : ℕ} {frame' : List ℕ} → frame' ≡ set frame i b → b ≡ pair_at s i
+          → Writing s before frame' (i + 1)
       stored room {b} e is =
           let here : min i (length before) ≡ i = omega (arith, v.length_kept) in
           let after : min (i + 1) (length before) ≡ suc i = omega (arith, v.length_kept) in
-          let some : i < length (bytes_of digits) = omega (arith, bytes_between digits) in
-          let front : take i frame ≡ take i (bytes_of digits) = rw here at v.front in
+          let some : i < length (bytes_of s) = omega (arith, bytes_between s) in
+          let front : take i frame ≡ take i (bytes_of s) = rw here at v.front in
           record {
-            decide = decide_after;
-            front = rw (e, after, take-suc-set frame i, take-suc (bytes_of digits) i 0, front, is, byte_there digits i (omega arith));
+            count = count_after;
+            front = rw (e, after, take-suc-set frame i, take-suc (bytes_of s) i 0, front, is, byte_there s i (omega arith));
             length_kept = rw e (length-set frame i b ∙ v.length_kept);
           }
 
-      pub full : length frame ≤ i → {frame' : List ℕ} → frame' ≡ frame → Writing digits before frame' (i + 1)
+      pub full : length frame ≤ i → {frame' : List ℕ} → frame' ≡ frame → Writing s before frame' (i + 1)
       full past e =
           let same : min (i + 1) (length before) ≡ min i (length before) = omega (arith, v.length_kept) in
-          record { decide = decide_after; front = rw (e, same) v.front; length_kept = rw e v.length_kept }
+          record { count = count_after; front = rw (e, same) v.front; length_kept = rw e v.length_kept }
 
-  pub all_written : i ≡ length digits / 2 → (length digits ≡ 0 → ⊥) → length digits % 2 ≡ 0 → {n : ℕ}
-      → n ≡ min (length digits / 2) (length frame)
-      → PairsAre digits (Some n) before frame
-  unfolding in_pairs
-  all_written all some even {n} is =
-      let right : in_pairs digits ≡ true = v.decide ∙ rw (drop_of_length-le digits {i = 2 * i} (omega arith)) in
-      let count : length (bytes_of digits) ≡ i = omega (arith, bytes_between digits) in
-      let len_is : min i (length before) ≡ n = omega (arith, v.length_kept) in
-      record {
-        answer = rw (right, lt-ltb 0 (length digits) (omega arith), count, len_is);
-        front = λ t. rw count v.front;
-        length_kept = v.length_kept;
-      }
-
--- ---- the line, by its digits
+-- ---- the line, by its pairs
 
 -- what scan_line ensures of an answer
 abbrev pub Answers : List ℕ → ℕ → List ℕ → List ℕ → Option Scanned → Type 0
@@ -249,56 +298,77 @@ refused : {input : List ℕ} {at : ℕ} {l : TextLine} {ls : List TextLine} {bef
 unfolding scanned
 refused e kept = record { answer = rw e; front = λ t. absurd (subst T e t); next = λ t. absurd (subst T e t); length_kept = kept }
 
--- s is the rest of the input, from the line on
-module _ (input : List ℕ) (at : ℕ) (s : List ℕ) (rest_is : s ≡ drop at input) where
-  pub no_newline : position is_newline s ≡ None → (frame : List ℕ) → Answers input at frame frame None
+no_body : (n : ℕ) (s : List ℕ) → ltb 0 n ≡ false → ltb 0 (length (take (2 * n) s)) ≡ false
+no_body zero s e = refl
+no_body (suc n) s e =
+    let some : ltb 0 (suc n) ≡ true = lt-ltb 0 (suc n) (omega arith) in
+    absurd (let z : ◌≡◌ {A = ℕ} 0 1 = cc in omega arith)
+
+ill_written : (l : TextLine) (ls : List TextLine) → starts_well (l ∷ ls) ≡ false → well_written l ≡ false
+unfolding well_written
+ill_written l ls e = also l.ended (ltb 0 (length l.body)) (in_pairs l.body) e
+  where
+    also : (a b c : Bool) → a && c ≡ false → a && b && c ≡ false
+    also true true c e = e
+    also true false c e = refl
+    also false b c e = refl
+
+pub pairs_within : {s before exit : List ℕ} {n : ℕ} → PairsAre s n before exit → n ≤ length s
+pairs_within {s = s} are = omega (arith, are.count, pairs_fit s)
+
+-- s is the rest of the input, from the line on, and n the count of its pairs
+module _ (input : List ℕ) (at : ℕ) (s : List ℕ) (rest_is : s ≡ drop at input) {n : ℕ} {before exit : List ℕ}
+    (are : PairsAre s n before exit) where
+  abbrev ends : Bool
+  ends = starts_with_newline (drop (2 * n) s)
+
+  count_is : starts_with_newline (after_pairs s) ≡ ends
+  count_is = rw are.count
+
+  same_lines : {l : TextLine} {ls : List TextLine} → lines_of (drop at input) ≡ l ∷ ls → lines_of s ≡ l ∷ ls
+  same_lines q = rw (← rest_is) at q
+
+  -- a newline after the pairs makes them the line
+  line_is : ends ≡ true → (l : TextLine) (ls : List TextLine) → lines_of (drop at input) ≡ l ∷ ls
+      → (l ≡ record { body = take (2 * n) s; ended = true }) × (ls ≡ lines_of (drop (suc (2 * n)) s))
+  line_is e l ls q =
+      let is = rw (← are.count) at (line_of_pairs s (count_is ∙ e)) in
+      let same = same_lines q in
+      (cc, cc)
+
+  pub broken : ltb 0 n && ends ≡ false → Answers input at before exit None
   unfolding well_written
-  no_newline none frame l ls q = refused (rw (never_ends s fails l ls (rw (← rest_is) at q))) refl
+  broken e l ls q = by ends refl
     where
-      fails : (k : ℕ) → k < length s → is_newline (get_or s k 0) ≡ false
-      fails k below =
-          elim (dec_lt (position_or_len is_newline s) (length s)) [
-            | yes some ↦ (let found = rw (lt-ltb (position_or_len is_newline s) (length s) some) at none in
-                absurd (let z : ◌≡◌ {A = ℕ} 0 1 = cc found in omega arith))
-            | no past ↦ fails_before_first is_newline s k 0 (omega arith)
-          ]
+      by : (b : Bool) → ends ≡ b → ScanIs input at l ls None before exit
+      by false stop =
+          refused (ill_written l ls (ap starts_well (sym (same_lines q)) ∙ pairs_tell s ∙ count_is ∙ stop)) are.length_kept
+      by true stop =
+          let none : ltb 0 n ≡ false = rw (stop, and-true (ltb 0 n)) at e in
+          refused (rw ((line_is stop l ls q).0, no_body n s none)) are.length_kept
 
-  module _ {n : ℕ} (found : position is_newline s ≡ Some n) where
-    line_is : (l : TextLine) (ls : List TextLine) → lines_of (drop at input) ≡ l ∷ ls
-        → (l ≡ record { body = take n s; ended = true }) × (ls ≡ lines_of (drop (suc n) s)) × (length (take n s) ≡ n)
-    line_is l ls q =
-        let told = position-Some is_newline s n 0 found in
-        let ends = line_ends s n told.0 told.1 told.2 in
-        let same : lines_of s ≡ l ∷ ls = rw (← rest_is) at q in
-        (cc, cc, length-take-le n s (omega arith))
-
-    module _ {r : Option ℕ} {before exit : List ℕ} (are : PairsAre (take n s) r before exit) where
-      pub broken : r ≡ None → Answers input at before exit None
-      unfolding well_written
-      broken e l ls q = refused (rw ((line_is l ls q).0) (by (paired (take n s)) _ (sym e ∙ are.answer))) are.length_kept
-        where
-          by : (b : Bool) (x : ℕ) → None ≡ cond b (Some x) None → b ≡ false
-          by true x q = let z : ◌≡◌ {A = ℕ} 0 1 = cc in absurd (omega arith)
-          by false x q = refl
-
-      pub scanned_well : {len next : ℕ} → r ≡ Some len → next ≡ at + n + 1
-          → Answers input at before exit (Some (record { len = len; next = next }))
-      unfolding well_written scanned
-      scanned_well {len} {next} e next_is l ls q =
-          let told = line_is l ls q in
-          let good = by (paired (take n s)) _ (sym e ∙ are.answer) in
-          let rest : at + n + 1 ≡ at + suc n = omega arith in
-          rw told.0
-          (record {
-            answer = rw (good.0, good.1, told.2, next_is);
-            front = λ t. are.front t;
-            next = λ t. rw (told.2, rest, ← (drop-drop (suc n) at input), ← rest_is) (sym told.1);
-            length_kept = are.length_kept;
-          })
-        where
-          by : (b : Bool) (x : ℕ) → Some len ≡ cond b (Some x) None → (b ≡ true) × (len ≡ x)
-          by true x q = (refl, cc)
-          by false x q = let z : ◌≡◌ {A = ℕ} 0 1 = cc in absurd (omega arith)
+  pub scanned_well : ltb 0 n && ends ≡ true → {len next : ℕ} → len ≡ min n (length exit) → next ≡ at + 2 * n + 1
+      → Answers input at before exit (Some (record { len = len; next = next }))
+  unfolding well_written scanned
+  scanned_well good {len} {next} len_is next_is l ls q =
+      let both = both_true (ltb 0 n) ends good in
+      let stop : ends ≡ true = both.1 in
+      let told = line_is stop l ls q in
+      let fits : 2 * n ≤ length s = rw are.count (pairs_fit s) in
+      let long : length (take (2 * n) s) ≡ 2 * n = length-take-le (2 * n) s fits in
+      let some : 0 < 2 * n = omega (arith, ltb→lt 0 n (rw both.0 tt)) in
+      let well : starts_well (l ∷ ls) ≡ true = ap starts_well (sym (same_lines q)) ∙ pairs_tell s ∙ count_is ∙ stop in
+      let right : in_pairs (take (2 * n) s) ≡ true = rw told.0 at well in
+      let count : length (bytes_of (take (2 * n) s)) ≡ n = omega (arith, bytes_between (take (2 * n) s), long) in
+      let rest : at + 2 * n + 1 ≡ at + suc (2 * n) = omega arith in
+      let taken_is : len ≡ min n (length before) = rw (← are.length_kept) len_is in
+      rw told.0
+      (record {
+        answer = rw (long, right, lt-ltb 0 (2 * n) some, count, taken_is, next_is);
+        front = λ t. rw (count, bytes_of_front n s, take-take (min n (length before)) n (bytes_of s) (omega arith)) are.front;
+        next = λ t. rw (long, rest, ← (drop-drop (suc (2 * n)) at input), ← rest_is) (sym told.1);
+        length_kept = are.length_kept;
+      })
 
 -- a part that goes to the end is all of the rest
 pub rest_of : (at : ℕ) (input : List ℕ) → take (length input - at) (drop at input) ≡ drop at input

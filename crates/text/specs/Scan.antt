@@ -1,6 +1,6 @@
 -- What scanning one line of an input answers and leaves in the frame's buffer, by the model's lines and digits.
-use Rattle.std.specs.Prelude.{ℕ, ◌+◌, min, ◌≡◌, Bool, cond, ◌&&◌, List, T, ltb, Option, Some, None, length, take, drop}
-use Rattle.model.specs.Text.{TextLine, lines_of, in_pairs, well_written, bytes_of}
+use Rattle.std.specs.Prelude.{ℕ, zero, suc, ◌+◌, min, ◌≡◌, Bool, false, cond, ◌&&◌, List, [], ◌∷◌, T, eqb, Option, Some, None, length, take, drop}
+use Rattle.model.specs.Text.{newline, TextLine, lines_of, is_digit, well_written, bytes_of}
 use Rattle.text.specs.declared.Scanned.{Scanned}
 
 -- how many of a line's bytes a buffer of room bytes takes
@@ -22,13 +22,18 @@ pub record ScanIs (input : List ℕ) (at : ℕ) (l : TextLine) (ls : List TextLi
   pub next : T (well_written l) → lines_of (drop (after at l) input) ≡ ls
   pub length_kept : length exit ≡ length before
 
--- some pairs of digits and nothing else
-abbrev pub paired : List ℕ → Bool
-paired digits = ltb 0 (length digits) && in_pairs digits
+-- how many pairs of digits stand at the front
+unfoldable pub pairs_in : List ℕ → ℕ
+pairs_in [] = 0
+pairs_in (x ∷ []) = 0
+pairs_in (x ∷ y ∷ s) = let later = suc (pairs_in s) in cond (is_digit x && is_digit y) later 0
 
--- the same of the digits of a line, without its newline
-pub record PairsAre (digits : List ℕ) (r : Option ℕ) (before exit : List ℕ) : Type 0 where
-  pub answer : r ≡ cond (paired digits) (Some (min (length (bytes_of digits)) (length before))) None
-  pub front : T (paired digits)
-      → take (min (length (bytes_of digits)) (length before)) exit ≡ take (min (length (bytes_of digits)) (length before)) (bytes_of digits)
+abbrev pub starts_with_newline : List ℕ → Bool
+starts_with_newline [] = false
+starts_with_newline (x ∷ s) = eqb x newline
+
+-- how many pairs there are, and their bytes at the front of the buffer, as many as it has room for
+pub record PairsAre (s : List ℕ) (r : ℕ) (before exit : List ℕ) : Type 0 where
+  pub count : r ≡ pairs_in s
+  pub front : take (min r (length before)) exit ≡ take (min r (length before)) (bytes_of s)
   pub length_kept : length exit ≡ length before

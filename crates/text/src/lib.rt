@@ -1,9 +1,9 @@
-// Lines of hexadecimal digits: a line is checked, and the bytes of its frame are written into a buffer.
+// Lines of hexadecimal digits: one pass over a line, which checks it and writes the bytes of its frame into a buffer.
 #![tactic(auto)]
 
-ghost use Rattle.std.specs.Prelude.{◌≡◌, List, ◌∷◌, ◌<◌, ◌≤◌, eqb, length, drop, position, MatchOption};
-ghost use Rattle.model.specs.Text.{TextLine, newline, lines_of, digit_value};
-ghost use Rattle.text.specs.Scan.{PairsAre, ScanIs};
+ghost use Rattle.std.specs.Prelude.{◌≡◌, ◌&&◌, List, ◌∷◌, ◌*◌, ◌<◌, ◌≤◌, ltb, length, drop, MatchOption};
+ghost use Rattle.model.specs.Text.{TextLine, lines_of, digit_value};
+ghost use Rattle.text.specs.Scan.{starts_with_newline, PairsAre, ScanIs};
 
 // A well written line: how many bytes of its frame the buffer took, and the place after the line.
 #[derive(Clone, Copy, PartialEq, Eq, Debug)]
@@ -24,29 +24,32 @@ fn digit_value(b: u8) -> Option<u8>
     }
 }
 
-// How many bytes stand before the first newline, where there is one.
-fn before_newline(rest: &[u8]) -> Option<usize>
-    ensures { result ≡ position (λ b. eqb b newline) rest.now }
+// The pairs of digits at the front of the rest of an input, into the buffer as far as it has room; the answer is how many there are.
+fn write_pairs(rest: &[u8], frame: &mut [u8]) -> usize
+    ensures { PairsAre rest.now result frame.old frame.new }
 {
-    rest.iter().position(|b| *b == b'\n')
-}
-
-// The bytes that pairs of digits stand for, into the buffer, and how many it took; `None` where there is no pair or another byte.
-fn write_pairs(digits: &[u8], frame: &mut [u8]) -> Option<usize>
-    ensures { PairsAre digits.now result frame.old frame.new }
-{
-    if digits.is_empty() || digits.len() % 2 != 0 {
-        return None;
-    }
-    let pairs = digits.len() / 2;
+    let pairs = rest.len() / 2;
     for i in 0..pairs {
-        let high = digit_value(digits[2 * i])?;
-        let low = digit_value(digits[2 * i + 1])?;
+        let Some(high) = digit_value(rest[2 * i]) else {
+            return i;
+        };
+        let Some(low) = digit_value(rest[2 * i + 1]) else {
+            return i;
+        };
         if i < frame.len() {
             frame[i] = 16 * high + low;
         }
     }
-    Some(pairs.min(frame.len()))
+    pairs
+}
+
+// Whether a line of so many pairs ends after them: with a newline, and not before the first.
+fn ends_after(rest: &[u8], pairs: usize) -> bool
+    requires { pairs ≤ length rest.now }
+    ensures { result ≡ (ltb 0 pairs && starts_with_newline (drop (2 * pairs) rest.now)) }
+{
+    let end = 2 * pairs;
+    pairs > 0 && end < rest.len() && rest[end] == b'\n'
 }
 
 // The line that begins at a place, or `None` where it breaks the rule. A frame longer than the buffer is cut there, and the
@@ -57,10 +60,12 @@ pub fn scan_line(input: &[u8], at: usize, frame: &mut [u8]) -> Option<Scanned>
         → ScanIs input.now at l ls result frame.old frame.new }
 {
     let rest = &input[at..];
-    let digits = before_newline(rest)?;
-    let len = write_pairs(&rest[..digits], frame)?;
+    let pairs = write_pairs(rest, frame);
+    if !ends_after(rest, pairs) {
+        return None;
+    }
     Some(Scanned {
-        len,
-        next: at + digits + 1,
+        len: pairs.min(frame.len()),
+        next: at + 2 * pairs + 1,
     })
 }

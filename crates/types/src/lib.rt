@@ -10,7 +10,7 @@ use model::Ty::{Any, Data, None as NoType, Seed, TData, Un, Wrap};
 use model::{Policy, Step, Ty};
 
 // The type of each template, with the template's number at every eighth.
-const TYPES: [Ty; 64] = [
+const TYPES: &[Ty; 64] = &[
     Un, // 0
     Any, NoType, Seed, Un, Data, NoType, TData, Un, // 8
     Data, NoType, TData, Un, Data, NoType, TData, Un, // 16

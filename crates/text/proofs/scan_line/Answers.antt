@@ -1,21 +1,19 @@
--- `text::scan_line` meets its contract: where the line ends, and what its digits say.
+-- `text::scan_line` meets its contract: how many pairs stand at the front, and what comes after them.
 -- Assumes nothing.
-use mathlib.Core.Path.{sym, refl}
-use Rattle.text.proofs.Laws.{rest_of, no_newline, broken, scanned_well}
+use native.Mathlib.Omega.{arith}
+use mathlib.Core.Path.{sym}
+use Rattle.text.proofs.Laws.{rest_of, pairs_within, broken, scanned_well}
 use Rattle.text.proofs.scan_line.Goals as goal
 
-pub returns-in_err-digits : goal.returns-in_err-digits
-returns-in_err-digits c =
-    let here = c.args in
-    rw c.from_residual.ensures (no_newline _ _ _ (rest_of here.at here.input.now) (sym (c.in_err-digits.ensures)) _)
+pub ends_after-requires : goal.ends_after-requires
+ends_after-requires c = pairs_within c.write_pairs-pairs.ensures
 
-pub returns-in_err-len : goal.returns-in_err-len
-returns-in_err-len c =
+pub returns-then-not-ends_after : goal.returns-then-not-ends_after
+returns-then-not-ends_after c =
     let here = c.args in
-    rw c.from_residual-in_err-len.ensures
-    (broken _ _ _ (rest_of here.at here.input.now) (sym (c.in_ok-digits.ensures)) (c.in_err-len.ensures) refl)
+    broken _ _ _ (rest_of here.at here.input.now) c.write_pairs-pairs.ensures (sym c.if-not-ends_after.ensures)
 
 pub returns : goal.returns
 returns c =
     let here = c.args in
-    scanned_well _ _ _ (rest_of here.at here.input.now) (sym (c.in_ok-digits.ensures)) (c.in_ok-len.ensures) refl refl
+    scanned_well _ _ _ (rest_of here.at here.input.now) c.write_pairs-pairs.ensures (sym c.if-not-ends_after.ensures) c.min.ensures (omega arith)
