@@ -69,17 +69,6 @@ fn computed(rows: &mut Filled<'_>, operation: Operation, x: usize, y: usize) -> 
     }
 }
 
-// The stored key of the handle in row x, where its template has what the step asks for. It has a row already.
-fn get(keys: &Filled<'_>, s: Step, x: usize) -> Result<usize, Halt>
-    requires { length keys.now.table.now ≤ 256 }
-    ensures { (c : Counts) → c.keys ≡ keys.now.len → outcome_told result c ≡ get_of keys.now.table.now c s x }
-{
-    match keys::stored(keys, x) {
-        Some(found) if types::meets_template(s, found.template) => Ok(found.key),
-        _ => Err(Halt::Stopped),
-    }
-}
-
 impl Token<'_> {
     // One more atom. It has no row yet, so it gets the next one; it is counted also where there is no room for its row.
     fn new_atom(&mut self) -> Result<usize, Halt>
@@ -154,6 +143,18 @@ impl Token<'_> {
         Ok(self.keep(h, x, t, t / 2 % 2 == 1))
     }
 
+    // The stored key of the handle in row x, where its template has what the step asks for. It has a row already.
+    #[tactic(auto, using(keys::proofs::Searching::stored_in_first))]
+    fn get(&self, s: Step, x: usize) -> Result<usize, Halt>
+        requires { (self.now.used.keys ≤ length self.now.keys.now) × (length self.now.keys.now ≤ 256) }
+        ensures { outcome_told result self.now.used ≡ get_of self.now.keys.now self.now.used s x }
+    {
+        match keys::stored(&self.keys[..self.used.keys], x) {
+            Some(found) if types::meets_template(s, found.template) => Ok(found.key),
+            _ => Err(Halt::Stopped),
+        }
+    }
+
     // One step. x and y are the rows of the values that its fields a and b name, below the number of rows where the op uses them.
     pub fn perform_step(&mut self, s: Step, x: usize, y: usize) -> Result<usize, Halt>
         requires { ReadyIn self.old × Named s x y self.old.used.rows }
@@ -164,13 +165,7 @@ impl Token<'_> {
     {
         match s.op() {
             Op::Return => Err(Halt::Ended(x)),
-            Op::Get => {
-                let keys = Filled {
-                    table: &mut *self.keys,
-                    len: self.used.keys,
-                };
-                get(&keys, s, x)
-            }
+            Op::Get => self.get(s, x),
             Op::Generate => self.generate(s.t),
             Op::Store => self.store(x, s.t),
             Op::Compute(operation) => self.compute(operation, x, y),

@@ -5,8 +5,8 @@ use Rattle.keys.proofs.Unpacking.{no_records, records_more}
 use Rattle.keys.proofs.records.Goals as goal
 
 pub loop-k-init : goal.loop-k-init
-loop-k-init c = no_records c.args.keys.now.table.now c.default-recs.result c.default-recs.ensures
+loop-k-init c = no_records c.args.keys.now c.default-recs.result c.default-recs.ensures
 
 pub loop-k-preserved : goal.loop-k-preserved
 loop-k-preserved c =
-    rw (c.from.ensures, c.loop-k.invariant) (records_more c.args.keys.now.table.now c.loop-k.k (omega arith) (omega arith))
+    rw (c.from.ensures, c.loop-k.invariant) (records_more c.args.keys.now c.loop-k.k (omega arith) (omega arith))

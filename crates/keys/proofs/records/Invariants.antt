@@ -5,4 +5,4 @@ use Rattle.keys.specs.Stored.{records_of}
 use Rattle.keys.proofs.records.Given as goal
 
 abbrev pub invariant-loop-k : goal.invariant-loop-k
-invariant-loop-k l = l.recs ≡ records_of l.keys.table.now l.k
+invariant-loop-k l = l.recs ≡ records_of l.keys l.k
