@@ -15,7 +15,7 @@ ghost use Rattle.values.specs.Filled.{SameTable};
 ghost use Rattle.token.specs.declared.Counts.{Counts};
 ghost use Rattle.token.specs.Outcome.{Gave, outcome_told, SameTables, KeysKept};
 ghost use Rattle.token.specs.Carried.{counts_of, Tidy, OperandsBelow, Named, Extends};
-ghost use Rattle.token.specs.Carried.{room_in, CarriedIn, Stands, ReadyIn, PerformsIn};
+ghost use Rattle.token.specs.Carried.{room_in, Carries, Stands, ReadyIn, PerformsIn};
 ghost use Rattle.token.specs.Numbers.{AtomsFit, MakesAtom, MakesHandle, key_number, Keeps, get_of};
 
 use model::{Full, Op, Operation, Step};
@@ -198,8 +198,8 @@ impl Token<'_> {
         ensures same_tables { SameTables self.old self.new }
         ensures counted { self.new.used ≡ earlier }
         ensures guards_kept { self.new.guards.now ≡ self.old.guards.now }
-        ensures undone { (σ σ' : State) → Tidy σ → CarriedIn σ' self.old → Extends σ σ' → earlier ≡ counts_of σ
-            → self.old.used ≡ counts_of σ' → CarriedIn σ self.new }
+        ensures undone { (σ σ' : State) (guards : List ℕ) → Tidy σ → Carries σ' self.old.rows.now self.old.keys.now guards → Extends σ σ'
+            → earlier ≡ counts_of σ → self.old.used ≡ counts_of σ' → Carries σ self.new.rows.now self.new.keys.now guards }
     {
         let mut rows = Filled {
             table: &mut *self.rows,

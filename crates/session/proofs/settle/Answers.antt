@@ -18,7 +18,8 @@ returns-in-Stopped-clause-settled c = λ σ out P tidy counts.
     (rw (← c.err.ensures.value) (sym c.in-Stopped.ensures))
     (λ k. tt)
     (undone.ensures.counted ∙ counts)
-    (undone.ensures.undone σ (state_of out) tidy P.carries P.extends counts (later_counts out c.args.outcome before P))
+    (rw undone.ensures.guards_kept
+    (undone.ensures.undone σ (state_of out) _ tidy P.carries P.extends counts (later_counts out c.args.outcome before P)))
     _ refl
 
 pub returns-in-Full-clause-settled : goal.returns-in-Full-clause-settled
@@ -29,5 +30,6 @@ returns-in-Full-clause-settled c = λ σ out P tidy counts.
     (rw (← c.err.ensures.value) (sym c.in-Full.ensures))
     (λ k. tt)
     (undone.ensures.counted ∙ counts)
-    (undone.ensures.undone σ (state_of out) tidy P.carries P.extends counts (later_counts out c.args.outcome before P))
+    (rw undone.ensures.guards_kept
+    (undone.ensures.undone σ (state_of out) _ tidy P.carries P.extends counts (later_counts out c.args.outcome before P)))
     _ refl

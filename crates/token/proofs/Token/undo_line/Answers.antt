@@ -12,7 +12,7 @@ use Rattle.token.proofs.Token.undo_line.Goals as goal
 pub returns-clause-undone : goal.returns-clause-undone
 returns-clause-undone c =
     let later = c.args.self.now in
-    λ σ σ' T C E first last.
+    λ σ σ' gs T C E first last.
     let held = rw E.rows_grown at C.rows_held in
     let H =
     first_held σ.world.rows E.new_rows held (same_rows first)
