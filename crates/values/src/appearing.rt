@@ -18,7 +18,7 @@ use crate::Filled;
 // One case for each kind of value; the parts of an encryption and of an undone encryption are earlier rows, and so is what a value is
 // derived from, after the label.
 #[derive(Clone, Copy, PartialEq, Eq, Debug)]
-enum Row {
+pub enum Row {
     Const(usize),
     Fresh(usize),
     Enc(usize, usize),

@@ -6,7 +6,7 @@ ghost use Rattle.std.specs.Prelude.{◌≡◌, ◌≤◌, ◌<◌, length, take}
 mod appearing;
 
 pub use crate::appearing::{
-    appear_const, appear_new, decrypt_rows, derive_row, encrypt_rows, is_constant,
+    Row, appear_const, appear_new, decrypt_rows, derive_row, encrypt_rows, is_constant,
 };
 
 // A lent table of which the first `len` places are used.
