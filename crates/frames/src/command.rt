@@ -1,11 +1,11 @@
 // A command frame: its steps decoded, checked, and stored in the tables.
-ghost use Rattle.std.specs.Prelude.{◌≡◌, ◌&&◌, List, map, ℕ, ◌+◌, ◌*◌, ◌≤◌, ◌<◌, eqb, length, position};
+ghost use Rattle.std.specs.Prelude.{◌≡◌, ◌&&◌, List, map, ℕ, ◌+◌, ◌*◌, ◌≤◌, ◌<◌, eqb, length, position, OnErr};
 ghost use Rattle.std.specs.List.{list_all};
 ghost use Rattle.model.specs.Basics.{every};
 ghost use Rattle.model.specs.Frame.{byte_at, step_formed, returns_last, names_made};
 ghost use Rattle.model.specs.Tables.{step_code};
 ghost use Rattle.frames.specs.Turn.{turn_told, SameReferences};
-ghost use Rattle.frames.specs.Parts.{DecodedAs, head_formed, CommandStored, TakesIn};
+ghost use Rattle.frames.specs.Parts.{DecodedAs, head_formed, CommandStored, TakesIn, CommandsKept, LinesKept};
 
 use crate::step::{step_at, step_code, step_formed, step_names};
 use crate::{FileTables, Turn, lowest};
@@ -122,6 +122,8 @@ fn store_command(c: Command, n: usize, tables: &mut FileTables<'_>)
 pub fn command_turn(f: &[u8], n: usize, tables: &mut FileTables<'_>) -> Result<Turn, Fault>
     requires { byte_at f.now 0 ≡ 2 }
     ensures answer { (m : ℕ) → TakesIn 1 n m f.now (turn_told result) tables.old tables.new }
+    ensures lines_kept { LinesKept tables.old tables.new }
+    ensures refused { OnErr result (CommandsKept tables.old tables.new) }
     ensures same_references { SameReferences tables.old tables.new }
 {
     if !head_formed(f) {
