@@ -9,6 +9,7 @@ ghost use Rattle.model.specs.declared.Refusal.{Refusal};
 ghost use Rattle.model.specs.declared.Rejection.TheVariants as rejection;
 
 use model::{Contents, Ran, Refusal, Rejection, Tables};
+use session::RunTables;
 
 // The bytes that the longest report takes: a verdict, 1,024 lines and an end.
 pub const REPORT_SIZE: usize = 19476;
@@ -17,6 +18,13 @@ pub const REPORT_SIZE: usize = 19476;
 macro_rules! lend {
     ($($table:ident),*) => {
         Tables { $($table: &mut *$table),* }
+    };
+}
+
+// The same for a session, which writes the first and only reads the others.
+macro_rules! lend_to_session {
+    ($($written:ident),*; $($read:ident),*) => {
+        RunTables { $($written: &mut *$written),*, $($read: &*$read),* }
     };
 }
 
@@ -77,7 +85,7 @@ pub fn run(input: &[u8], tables: Tables<'_>) -> Result<Ran, Refusal>
     } = tables;
     let tables = lend!(rows, keys, heads, arguments, outcomes, commands, steps);
     let lines = file::read_tables(input, tables)?.lines;
-    let tables = lend!(rows, keys, heads, arguments, outcomes, commands, steps);
+    let tables = lend_to_session!(rows, keys, outcomes; heads, arguments, commands, steps);
     Ok(session::run_session(tables, lines).ran)
 }
 
@@ -105,7 +113,7 @@ pub fn report(input: &[u8], tables: Tables<'_>, buffer: &mut [u8]) -> usize
         Err(refusal) => return printing::print_refusal(buffer, refusal),
     };
     let judged = typing::judge(contents.policy, contents.commands, commands, steps);
-    let tables = lend!(rows, keys, heads, arguments, outcomes, commands, steps);
+    let tables = lend_to_session!(rows, keys, outcomes; heads, arguments, commands, steps);
     let session = session::run_session(tables, contents.lines);
     printing::print_report(buffer, judged, &outcomes[..session.finished], session.ran)
 }

@@ -7,15 +7,15 @@ ghost use Rattle.model.specs.Value.{Value};
 ghost use Rattle.model.specs.Token.{State, Out};
 ghost use Rattle.model.specs.Frame.{File};
 ghost use Rattle.model.specs.Report.{run_of};
-ghost use Rattle.model.specs.Told.{lent, left};
 ghost use Rattle.values.specs.Holds.{Holds};
 ghost use Rattle.token.specs.Outcome.{SameTables};
 ghost use Rattle.token.specs.Carried.{counts_of, Tidy, PerformsIn};
 ghost use Rattle.session.specs.Sessioned.{SessionGiven, SessionReady, RanIs, FileKept, GuardsBelow, known, breached_by, RowBelow};
 ghost use Rattle.session.specs.Sessioned.{outcome_number, SettleReady, SettledIs, FinishReady, FinishedIs};
+ghost use Rattle.session.specs.Lent.{lent, left};
 
 use line::run_line;
-use model::{Ending, Full, Ran, Tables};
+use model::{Ending, Full, Ran};
 use token::{Counts, Halt, Token};
 
 // Whether the value in a row is a constant or in hand.
@@ -114,13 +114,25 @@ impl Session {
     }
 }
 
+// The tables that a session is lent: the file in heads, arguments, commands and steps, which it reads; the others it writes.
+#[derive(Drop)]
+pub struct RunTables<'a> {
+    pub rows: &'a mut [u64],
+    pub keys: &'a mut [u64],
+    pub heads: &'a [u64],
+    pub arguments: &'a [u64],
+    pub outcomes: &'a mut [u64],
+    pub commands: &'a [u64],
+    pub steps: &'a [u64],
+}
+
 // The lines of a file from the empty token, into tables that hold the file and are zero otherwise.
-pub fn run_session(tables: Tables<'_>, m: usize) -> Session
+pub fn run_session(tables: RunTables<'_>, m: usize) -> Session
     requires { SessionReady (lent tables) m }
     ensures ran { (φ : File) → SessionGiven φ (lent tables.entry) m → RanIs (run_of φ) result (left tables.exit) }
     ensures file_kept { FileKept (lent tables.entry) (left tables.exit) }
 {
-    let Tables {
+    let RunTables {
         rows,
         keys,
         heads,

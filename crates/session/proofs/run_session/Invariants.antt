@@ -1,6 +1,6 @@
 -- `session::run_session` meets its contract: its loop keeps `Running`, whatever file the tables hold.
 -- Assumes nothing.
-use Rattle.model.specs.Told.{lent}
+use Rattle.session.specs.Lent.{lent}
 use Rattle.session.proofs.Running.{Running}
 use Rattle.session.proofs.run_session.Given as goal
 
