@@ -10,7 +10,7 @@ use native.Mathlib.Numerals.{add-one, add-two}
 use native.Mathlib.Omega.{arith}
 use lib.ListN.{length, get_or, take, drop, set, length-set, length-drop}
 use lib.Seq.{drop-cons, take_all, take-suc-set, take-suc, take-take, length-take-le, drop-drop}
-use lib.Dec.{T, eqb, ltb, leb, eqb→eq, ltb→lt}
+use lib.Dec.{T, eqb, ltb, leb, eqb→eq, ltb→lt, lit<}
 use borrow.Author.Tests.{lt-ltb, le-ltb, ne_eqb}
 use Rattle.std.specs.Prelude.{Option, Some, None}
 use Rattle.model.specs.Basics.{up_from}
@@ -30,6 +30,12 @@ byte_worth b h =
     sym (eqb→eq (worth b) (digit_value b) (every_in_range (λ x. eqb (worth x) (digit_value x)) 0 256 tt b (omega arith) (omega arith)))
 
 -- ---- pairs of digits
+
+first_pair : (x y : ℕ) (p : List ℕ) → T (in_pairs (x ∷ y ∷ p)) → T (is_digit x) × T (is_digit y) × T (in_pairs p)
+unfolding in_pairs
+first_pair x y p t =
+    let both = and_left (is_digit x && is_digit y) (in_pairs p) t in
+    (and_left (is_digit x) (is_digit y) both, and_right (is_digit x) (is_digit y) both, and_right (is_digit x && is_digit y) (in_pairs p) t)
 
 -- two digits a byte
 bytes_between : (p : List ℕ) → (2 * length (bytes_of p) ≤ length p) × (length p < 2 * length (bytes_of p) + 2)
@@ -199,6 +205,16 @@ module _ (l : TextLine) (t : T (well_written l)) where
       some [] h t = h
       some (x ∷ []) h t = absurd t
       some (x ∷ y ∷ p) h t = zero-lt-suc _
+
+  pub frame_bytes : (j : ℕ) → get_or (bytes_of l.body) j 0 < 256
+  unfolding bytes_of in_pairs
+  frame_bytes = below l.body line_facts.1
+    where
+      below : (p : List ℕ) → T (in_pairs p) → (j : ℕ) → get_or (bytes_of p) j 0 < 256
+      below [] t j = lit< tt
+      below (x ∷ []) t j = absurd t
+      below (x ∷ y ∷ p) t zero = let f = first_pair x y p t in omega (arith, ltb→lt (digit_value x) 16 f.0, ltb→lt (digit_value y) 16 f.1)
+      below (x ∷ y ∷ p) t (suc j) = below p (first_pair x y p t).2 j
 
 -- what an answer says of the line
 module _ {input : List ℕ} {at : ℕ} {l : TextLine} {ls : List TextLine} {before exit : List ℕ} {r : Option Scanned}

@@ -3,7 +3,7 @@
 use Prim.Native.Nat.{ℕ, ◌<◌}
 use mathlib.Core.Path.{◌≡◌, refl, sym, ap, ap₂, ◌∙◌}
 use mathlib.Core.Bool.{Bool, true, false, cond}
-use mathlib.Core.List.{List, [], ◌∷◌, ◌++◌}
+use mathlib.Core.List.{List, [], ◌∷◌, ◌++◌, append-nil}
 use native.Mathlib.Omega.{arith}
 use native.Mathlib.Decide.{dec_lt}
 use lib.Dec.{eqb, ltb}
@@ -115,6 +115,17 @@ module _ {t : List ℕ} {vs : List Value} {n : ℕ} (H : Holds t vs) (count : n 
     undone_by_number : Tells (value_at vs a) (undone_read (decode_row (get_or t a 0)) b)
     undone_by_number =
         rw (row_read H a (omega arith)) (undone_as_row (value_at vs a) (parts_at H.rows a (omega arith)))
+
+-- ---- the rows once a value has appeared are those before and perhaps one more
+
+pub rows_extended : (len : ℕ) (v : Value) (vs : List Value) → (ws : List Value) × (rows_in len v vs ≡ vs ++ ws)
+unfolding rows_in
+rows_extended len v vs = go (present v vs) (ltb (length vs) len)
+  where
+    go : (b c : Bool) → (ws : List Value) × (cond b vs (cond c (vs ++ v ∷ []) vs) ≡ vs ++ ws)
+    go true c = ([], sym (append-nil vs))
+    go false true = (v ∷ [], refl)
+    go false false = ([], sym (append-nil vs))
 
 -- ---- a table with its length
 
