@@ -1,6 +1,6 @@
 -- What is printed for an input is the model's answer: its numbers fit their bytes, and the printed parts are the answer's parts.
 -- Assumes nothing.
-use Rattle.std.proofs.Common.{ℕ, ◌≤◌, ◌<◌, ◌≡◌, sym, ap, ◌∙◌, Bool, true, false, cond, List, map, length, take, arith}
+use Rattle.std.proofs.Common.{ℕ, ◌≤◌, ◌<◌, ◌≡◌, refl, sym, ap, ◌∙◌, Bool, true, false, cond, List, map, length, take, arith}
 use Rattle.std.proofs.Common.{Err, Option, Some, None, IfSome}
 use Rattle.std.proofs.lemmas.List.{length-map}
 use Rattle.model.specs.Typing.{Verdict, verdict}
@@ -76,23 +76,24 @@ module _ {input : List ℕ} {lent left : Tables} {c : Contents} (f : TakenFile i
       keys_fit = λ i l. (h.lines_fit i _ l).1;
     }
 
-    pub breach_in_bytes : breach_told s.ran.first_breach < 65536
-    breach_in_bytes = go s.ran.first_breach h.first_below
+    pub breach_in_bytes : {n : ℕ} → n ≡ breach_told s.ran.first_breach → n < 65536
+    breach_in_bytes e = rw e (go s.ran.first_breach h.first_below)
       where
         go : (a : Option ℕ) → IfSome a (λ i. i < 1024) → breach_told a < 65536
         go (Some i) below = omega arith
         go None below = omega arith
 
-    abbrev printed_for : Verdict → List ℕ
-    printed_for v = report_bytes v (run_of f.φ).session.finished (ending_number s.ran.ending) (breach_told s.ran.first_breach)
+    abbrev printed_for : Verdict → ℕ → ℕ → List ℕ
+    printed_for v ending breach = report_bytes v (run_of f.φ).session.finished ending breach
 
-    pub file_reported : FileKept left after → {v : Verdict} {size count : ℕ} {buffer : List ℕ} → v ≡ verdict f.φ.policy f.φ.commands
-        → size ≡ report_size → Printed (printed_for v) size count buffer → Reported input lent count after buffer
+    pub file_reported : FileKept left after → {v : Verdict} {ending breach size count : ℕ} {buffer : List ℕ}
+        → v ≡ verdict f.φ.policy f.φ.commands → ending ≡ ending_number s.ran.ending → breach ≡ breach_told s.ran.first_breach
+        → size ≡ report_size → Printed (printed_for v ending breach) size count buffer → Reported input lent count after buffer
     unfolding answer_to
-    file_reported kept e whole p =
-        let q = rw (e, h.ending_is, h.first_is) at p in
+    file_reported kept e ends breaches whole p =
+        let q = rw (e, ends, breaches, h.ending_is, h.first_is) at p in
         record {
           count = rw f.read_is q.count;
           buffer_is = rw (f.read_is, ← whole) q.buffer_is;
-          tables = (file_run f s h kept).tables;
+          tables = (file_run f s h kept refl).tables;
         }

@@ -4,7 +4,7 @@ use Rattle.std.proofs.Common.{ℕ, ◌≤◌, ◌≡◌, sym, ap, ◌∙◌, sub
 use Rattle.model.specs.Frame.{File}
 use Rattle.model.specs.File.{file}
 use Rattle.model.specs.Report.{run_of}
-use Rattle.model.specs.Tables.{Tables, Rows, tables_read, tables_run, run_answer, ReadIs, RunIs}
+use Rattle.model.specs.Tables.{Tables, Rows, RunAnswer, tables_read, tables_run, run_answer, ReadIs, RunIs}
 use Rattle.model.specs.Told.{read_told, run_told}
 use Rattle.model.specs.declared.Contents.{Contents}
 use Rattle.model.specs.declared.Refusal.{Refusal}
@@ -52,10 +52,10 @@ module _ {input : List ℕ} {lent left : Tables} {c : Contents} (f : TakenFile i
       steps = (k.steps ∙ ap (λ (t : Tables). t.steps) f.tables_are) i;
     }
 
-    pub file_run : RunIs input lent (run_told (Ok s.ran)) after
+    pub file_run : {r : RunAnswer} → r ≡ run_told (Ok s.ran) → RunIs input lent r after
     unfolding run_answer
-    file_run = record {
-      answer = rw (f.read_is, h.ending_is, h.place_is, h.first_is);
+    file_run e = record {
+      answer = rw (e, f.read_is, h.ending_is, h.place_is, h.first_is);
       tables = left_by_run ∙ ap (tables_run lent) (sym f.read_is);
       few = λ φ q. subst (λ (ψ : File). length (run_of ψ).session.state.world.rows ≤ 4096) (one_file f φ q) h.rows_few;
       apart = λ φ q. subst (λ (ψ : File). Rows (run_of ψ).session.state.world.rows) (one_file f φ q) h.rows_apart;

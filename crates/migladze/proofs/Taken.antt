@@ -1,6 +1,6 @@
 -- What an answer of reading tells: a refusal, or the file that the tables hold, within the bounds that the rest of the code relies on.
 -- Assumes nothing.
-use Rattle.std.proofs.Common.{ℕ, ◌≤◌, ◌≡◌, refl, sym, ap, subst, ◌∙◌, Bool, true, false, cond, List, length, Ok, Err, arith}
+use Rattle.std.proofs.Common.{ℕ, ◌≤◌, ◌≡◌, refl, sym, ap, subst, ◌∙◌, Bool, true, false, cond, List, length, Result, Ok, Err, IsErrAnd, arith}
 use Rattle.model.specs.Typing.{Verdict, verdict}
 use Rattle.model.specs.Frame.{File}
 use Rattle.model.specs.File.{Parsed, refused, file, parse, verdict_of}
@@ -37,6 +37,12 @@ module _ {input : List ℕ} {lent left : Tables} (r : Refusal) (h : ReadIs input
 
   pub refusal_judged : VerdictIs input lent (verdict_told (Err (rejection.Refused r))) left
   refusal_judged = record { answer = rw refusal_read; tables = h.tables; flat = λ zero φ q. no_file φ q }
+
+-- the verdict of what reading refused, whichever way the code tells it
+pub refusal_told : {input : List ℕ} {lent left : Tables} (read : Result Contents Refusal) → ReadIs input lent (read_told read) left
+    → {v : Verdict} → IsErrAnd read (λ r. v ≡ verdict_told (Err (rejection.Refused r))) → VerdictIs input lent v left
+refusal_told (Err r) h e = rw e (refusal_judged r h)
+refusal_told (Ok c) h e = absurd e
 
 -- ---- a file
 
@@ -87,6 +93,11 @@ file_taken {input} {lent} {left} c h =
       tables_are = h.tables ∙ ap (tables_read lent) found.1;
       lengths = lengths_right lent read.1;
     }
+
+-- the same of what reading answered, whichever way the code comes to it
+pub answer_taken : {input : List ℕ} {lent left : Tables} {read : Result Contents Refusal} → ReadIs input lent (read_told read) left
+    → (c : Contents) → read ≡ Ok c → TakenFile input lent left c
+answer_taken {input} {lent} {left} h c e = file_taken c (subst (λ r. ReadIs input lent (read_told r) left) e h)
 
 module _ {input : List ℕ} {lent left : Tables} {c : Contents} (f : TakenFile input lent left c) where
   -- no other file was read

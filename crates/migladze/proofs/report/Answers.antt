@@ -1,5 +1,6 @@
 -- `migladze::report` meets its contract: reading, judging and running fill what printing prints.
 -- Assumes nothing.
+use borrow.Author.Rules.{rules}
 use Rattle.std.proofs.Common.{sym, ap, ◌∙◌, arith, length-take-le}
 use Rattle.model.specs.Tables.{zeros}
 use Rattle.migladze.proofs.Taken.{file_taken, given_to_judge, few_commands}
@@ -52,7 +53,7 @@ print_report-requires c =
       room = omega arith;
       verdict = verdict_in_bytes f (c.judge-judged.ensures f.φ (given_to_judge f));
       lines = few_printed f _ ran;
-      breach = breach_in_bytes f _ ran;
+      breach = breach_in_bytes f _ ran (search rules);
     }
 
 pub returns : goal.returns
@@ -63,4 +64,4 @@ returns c =
     let judged = c.judge-judged.ensures f.φ (given_to_judge f) in
     let kept = c.run_session-session.ensures.file_kept in
     let printed = c.print_report.ensures _ (lines_to_print f _ ran) in
-    report_made size (file_reported f _ ran kept judged (c.fill.ensures.len ∙ size) printed)
+    report_made size (file_reported f _ ran kept judged (search rules) (search rules) (c.fill.ensures.len ∙ size) printed)
