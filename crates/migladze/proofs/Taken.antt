@@ -40,9 +40,11 @@ module _ {input : List ℕ} {lent left : Tables} (r : Refusal) (h : ReadIs input
 
 -- the verdict of what reading refused, whichever way the code tells it
 pub refusal_told : {input : List ℕ} {lent left : Tables} (read : Result Contents Refusal) → ReadIs input lent (read_told read) left
-    → {v : Verdict} → IsErrAnd read (λ r. v ≡ verdict_told (Err (rejection.Refused r))) → VerdictIs input lent v left
-refusal_told (Err r) h e = rw e (refusal_judged r h)
-refusal_told (Ok c) h e = absurd e
+    → {v : Verdict} → v.step ≡ 0 → IsErrAnd read (λ r. (v.number ≡ fault_number r.fault) × (v.frame ≡ r.frame)) → VerdictIs input lent v left
+refusal_told (Err r) h {v} no_step e =
+    let same : v ≡ verdict_told (Err (rejection.Refused r)) = λ i. record { number = e.0 i; frame = e.1 i; step = no_step i } in
+    rw same (refusal_judged r h)
+refusal_told (Ok c) h no_step e = absurd e
 
 -- ---- a file
 

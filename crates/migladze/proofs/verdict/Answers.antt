@@ -9,7 +9,7 @@ use Rattle.migladze.proofs.verdict.Goals as goal
 
 pub returns-in_err-contents-clause-answer : goal.returns-in_err-contents-clause-answer
 returns-in_err-contents-clause-answer c =
-    refusal_told _ c.read_tables.ensures (search rules)
+    refusal_told _ c.read_tables.ensures (search rules) (search rules)
 
 pub judge-requires : goal.judge-requires
 judge-requires c =
