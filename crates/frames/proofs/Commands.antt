@@ -12,7 +12,7 @@ use Rattle.model.specs.Basics.{◌else◌then◌, every}
 use Rattle.model.specs.Frame.{File, byte_at, steps_of, command_of, step_formed, returns_last, names_made, command_kind, body_refusal}
 use Rattle.model.specs.Tables.{padded, step_code, command_code}
 use Rattle.frames.specs.Turn.{turn_of}
-use Rattle.frames.specs.Parts.{no_step, filled, head_formed, DecodedAs, CommandStored, Takes, TakesIn}
+use Rattle.frames.specs.Parts.{no_step, filled, head_formed, DecodedAs, CommandStored, Takes}
 use Rattle.frames.specs.declared.file_tables.FileTables.{FileTables}
 use Rattle.frames.specs.declared.command.Command.{Command}
 use Rattle.frames.specs.Turn as turn
@@ -100,9 +100,10 @@ module _ (f : List ℕ) (kind : byte_at f 0 ≡ 2) (b : Bool) (is_b : b ≡ head
       command_refused some k s m h a c counted held =
           refused x (is_in_place f (is_command f kind) counted refl ∙ refusal_is c.file counted.commands_are) some held
 
-      pub command_taken : x ≡ 0 → {t t' : FileTables} → CommandStored r n t t' → (m : ℕ) → TakesIn 1 n m f turn.Command t t'
+      pub command_taken : x ≡ 0 → {t t' : FileTables} → CommandStored r n t t' → (m : ℕ) (h a : List ℕ)
+          → Takes 1 n m f turn.Command h a t.commands.now t.steps.now h a t'.commands.now t'.steps.now
       unfolding turn_of command_code
-      command_taken none stored m c counted held =
+      command_taken none stored m h a c counted held =
           let cs = c.file.commands in
           let count = counted.commands_are in
           let room = room_left p q n 32 x is_x none in
@@ -110,8 +111,8 @@ module _ (f : List ℕ) (kind : byte_at f 0 ≡ 2) (b : Bool) (is_b : b ≡ head
           let code : r.params + 256 * r.count ≡ command_code (command_of f) = rw (is_r.params_are, count_is) in
           taken f (is_command f kind) (is_in_place f (is_command f kind) counted refl ∙ refusal_is c.file count ∙ none) refl
           (record {
-            heads_are = stored.heads_kept ∙ held.heads_are;
-            arguments_are = stored.arguments_kept ∙ held.arguments_are;
+            heads_are = held.heads_are;
+            arguments_are = held.arguments_are;
             commands_are = stored.entry ∙ entry_written command_code 32 n cs (command_of f) _ _ held.commands_are count room code;
             steps_are = stored.places ∙ steps_written cs counted.few_steps (command_of f) n _ _ held.steps_are count room codes_are few;
           })

@@ -118,10 +118,10 @@ module _ (f : List ℕ) (kind : byte_at f 0 ≡ 3) where
     line_refused some h a s place here c counted held =
         refused x (is_in_place f (is_line f kind) counted (le-leb 1 place here) ∙ refusal_is counted held.commands_are) some held
 
-    pub line_taken : x ≡ 0 → {t t' : FileTables} → LineStored f m t t' → t.commands.now ≡ k → (place : ℕ) → 1 ≤ place
-        → Takes place n m f turn.Line t.heads.now t.arguments.now k t.steps.now t'.heads.now t'.arguments.now t'.commands.now t'.steps.now
+    pub line_taken : x ≡ 0 → {t t' : FileTables} → LineStored f m t t' → (place : ℕ) (s : List ℕ) → 1 ≤ place
+        → Takes place n m f turn.Line t.heads.now t.arguments.now k s t'.heads.now t'.arguments.now k s
     unfolding turn_of
-    line_taken none stored same place here c counted held =
+    line_taken none stored place s here c counted held =
         let args = args_of (drop 4 f) in
         let ls = c.file.lines in
         let room = room_left true q m 1024 x is_x none in
@@ -135,6 +135,6 @@ module _ (f : List ℕ) (kind : byte_at f 0 ≡ 3) where
           heads_are = stored.head ∙ entry_written head_code 1024 m ls (line_of f) _ _ held.heads_are counted.lines_are room head;
           arguments_are = stored.arguments
               ∙ entry_written (λ l. args_code (args_of_line l)) 1024 m ls (line_of f) _ _ held.arguments_are counted.lines_are room code;
-          commands_are = stored.commands_kept ∙ same ∙ held.commands_are;
-          steps_are = stored.steps_kept ∙ held.steps_are;
+          commands_are = held.commands_are;
+          steps_are = held.steps_are;
         })

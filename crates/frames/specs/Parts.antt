@@ -60,10 +60,6 @@ abbrev pub Takes : ℕ → ℕ → ℕ → List ℕ → Turn → List ℕ → Li
 Takes place n m f r h a k s h' a' k' s' =
     (c : Reading) → Counted c place n m → Held c.file h a k s → TurnIs c f r h' a' k' s'
 
-abbrev pub TakesIn : ℕ → ℕ → ℕ → List ℕ → Turn → FileTables → FileTables → Type 0
-TakesIn place n m f r t t' =
-    Takes place n m f r t.heads.now t.arguments.now t.commands.now t.steps.now t'.heads.now t'.arguments.now t'.commands.now t'.steps.now
-
 -- ---- two of the tables are as they were, whatever they hold: a frame of the other kind leaves them, and so does a refused one
 
 abbrev pub CommandsKept : FileTables → FileTables → Type 0

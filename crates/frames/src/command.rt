@@ -5,7 +5,7 @@ ghost use Rattle.model.specs.Basics.{every};
 ghost use Rattle.model.specs.Frame.{byte_at, step_formed, returns_last, names_made};
 ghost use Rattle.model.specs.Tables.{step_code};
 ghost use Rattle.frames.specs.Turn.{turn_told, SameReferences};
-ghost use Rattle.frames.specs.Parts.{DecodedAs, head_formed, CommandStored, TakesIn, CommandsKept, LinesKept};
+ghost use Rattle.frames.specs.Parts.{DecodedAs, head_formed, CommandStored, Takes, CommandsKept, LinesKept};
 
 use crate::step::{step_at, step_code, step_formed, step_names};
 use crate::{FileTables, Turn, lowest};
@@ -121,7 +121,8 @@ fn store_command(c: Command, n: usize, tables: &mut FileTables<'_>)
 #[tactic(auto, using(crate::proofs::Commands::head_whole, crate::proofs::Commands::head_some, crate::proofs::Commands::head_few))]
 pub fn command_turn(f: &[u8], n: usize, tables: &mut FileTables<'_>) -> Result<Turn, Fault>
     requires { byte_at f.now 0 ≡ 2 }
-    ensures answer { (m : ℕ) → TakesIn 1 n m f.now (turn_told result) tables.old tables.new }
+    ensures answer { (m : ℕ) (h a : List ℕ) → Takes 1 n m f.now (turn_told result) h a tables.old.commands.now tables.old.steps.now
+        h a tables.new.commands.now tables.new.steps.now }
     ensures lines_kept { LinesKept tables.old tables.new }
     ensures refused { OnErr result (CommandsKept tables.old tables.new) }
     ensures same_references { SameReferences tables.old tables.new }

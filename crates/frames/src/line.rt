@@ -4,7 +4,7 @@ ghost use Rattle.model.specs.Basics.{every};
 ghost use Rattle.model.specs.Frame.{byte_at, arg_of, args_of, arg_names, head_fits, line_formed};
 ghost use Rattle.model.specs.Tables.{args_code};
 ghost use Rattle.frames.specs.Turn.{turn_told, SameReferences};
-ghost use Rattle.frames.specs.Parts.{ArgumentIs, line_named, LineStored, TakesIn, CommandsKept, LinesKept};
+ghost use Rattle.frames.specs.Parts.{ArgumentIs, line_named, LineStored, Takes, CommandsKept, LinesKept};
 
 use crate::{FileTables, Turn, lowest};
 use model::Fault;
@@ -126,7 +126,9 @@ impl<'a> LineFrame<'a> {
 
 pub fn line_turn(f: &[u8], n: usize, m: usize, tables: &mut FileTables<'_>) -> Result<Turn, Fault>
     requires { (byte_at f.now 0 ≡ 3) × (n ≤ 32) }
-    ensures answer { (place : ℕ) → 1 ≤ place → TakesIn place n m f.now (turn_told result) tables.old tables.new }
+    ensures answer { (place : ℕ) (s : List ℕ) → 1 ≤ place → Takes place n m f.now (turn_told result)
+        tables.old.heads.now tables.old.arguments.now tables.old.commands.now s
+        tables.new.heads.now tables.new.arguments.now tables.old.commands.now s }
     ensures commands_kept { CommandsKept tables.old tables.new }
     ensures refused { OnErr result (LinesKept tables.old tables.new) }
     ensures same_references { SameReferences tables.old tables.new }

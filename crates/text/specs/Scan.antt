@@ -1,5 +1,5 @@
 -- What scanning one line of an input answers and leaves in the frame's buffer, by the model's lines and digits.
-use Rattle.std.specs.Prelude.{ℕ, zero, suc, ◌+◌, min, ◌≡◌, Bool, false, cond, ◌&&◌, List, [], ◌∷◌, T, eqb, Option, Some, None, length, take, drop}
+use Rattle.std.specs.Prelude.{ℕ, suc, ◌+◌, min, ◌≡◌, Bool, false, cond, ◌&&◌, List, [], ◌∷◌, T, eqb, Option, Some, None, length, take, drop}
 use Rattle.model.specs.Text.{newline, TextLine, lines_of, is_digit, well_written, bytes_of}
 use Rattle.text.specs.declared.Scanned.{Scanned}
 

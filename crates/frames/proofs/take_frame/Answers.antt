@@ -11,8 +11,11 @@ returns-then-not-allows-clause-answer c = misplaced _ _ _ _ _ _ _ _ (sym c.allow
 pub returns-in-2-clause-answer : goal.returns-in-2-clause-answer
 returns-in-2-clause-answer c r counted held =
     let here = command_place c.args.f.now _ c.in-2.is (sym c.allows.ensures ∙ c.if-not-allows.false) in
-    c.command_turn.ensures.answer _ r (placed counted here) held
+    let kept = c.command_turn.ensures.lines_kept in
+    rw (kept.0, kept.1) (c.command_turn.ensures.answer _ _ _ r (placed counted here) held)
 
 pub returns-in_default-clause-answer : goal.returns-in_default-clause-answer
 returns-in_default-clause-answer c =
-    c.line_turn.ensures.answer _ (line_place c.args.f.now _ (search rules) (sym c.allows.ensures ∙ c.if-not-allows.false))
+    let kept = c.line_turn.ensures.commands_kept in
+    rw (kept.0, kept.1)
+    (c.line_turn.ensures.answer _ _ (line_place c.args.f.now _ (search rules) (sym c.allows.ensures ∙ c.if-not-allows.false)))
